@@ -1,0 +1,51 @@
+// What the calls of 01-scope.md take and give back. The rules themselves stand in specs/.
+
+// A step as the record holds it: decision, degree d, three neighbours, choices (bit m for mask m).
+pub struct Step {
+    pub decision: u8,
+    pub degree: u8,
+    pub first: u8,
+    pub second: u8,
+    pub third: u8,
+    pub choices: u8,
+}
+
+// How to grow an answer back. `count` is the number of steps; a state for each decision: 0 or 1 fixed, 2 remaining, 3 eliminated.
+pub struct Record {
+    pub n: u8,
+    pub count: u8,
+    pub constant: i64,
+    pub states: [u8; 64],
+    pub steps: [Step; 64],
+}
+
+// What reading a block gives: a refusal's number with an empty record, or 0 and the record.
+pub struct Reading {
+    pub answer: u8,
+    pub record: Record,
+}
+
+// The counts of `RootReductionStatistics`, cut dominance aside.
+pub struct Counts {
+    pub eliminated: u32,
+    pub degree_three_eliminated: u32,
+    pub degree_three_skipped: u32,
+    pub contracted: u32,
+    pub weak_contractions: u32,
+    pub additional_fixed: u32,
+    pub remaining: u32,
+    pub passes: u32,
+    pub blocks_eliminated: u32,
+    pub block_variables: u32,
+}
+
+// What a reduction gives: a refusal's number with nothing else, or 0 and all of it.
+pub struct Reduction {
+    pub answer: u8,
+    pub record: Record,
+    pub counts: Counts,
+    pub takes: u32,
+    pub blocks: u32,
+    pub units: u32,
+    pub complete: bool,
+}
