@@ -6,3 +6,8 @@ pub mod Sum
 pub mod Bit
 pub mod Quad
 pub mod Calls
+pub mod Tests
+pub mod Lists
+pub mod Pigeon
+pub mod Members
+pub mod Masks

@@ -1,0 +1,158 @@
+-- Eliminate, at degree at most 2: what it does to the cost of every plan. Assumes nothing.
+use mathlib.Core.Path.{_≡_, refl, sym, ap, ap₂, _∙_, subst}
+use mathlib.Core.Bool.{Bool, true, false, cond, not}
+use mathlib.Core.List.{List, [], _∷_, map}
+use mathlib.Core.Logic.{_≢_}
+use Prim.Native.Nat.{ℕ, zero, suc, _+_, _*_, _/_, _%_, _<_, _≤_}
+use native.Mathlib.Omega.{arith}
+use native.Mathlib.Nat.{not-suc-le-zero}
+use native.Mathlib.Decide.{ℕ-discrete}
+use lib.Dec.{T, eqb}
+use lib.ListN.{length, getD, set, length-set}
+use lib.IntN.{ℤ, pos, negsuc, _+ℤ_, _-ℤ_, negℤ, +ℤ-assoc, +ℤ-idl, +ℤ-idr, +ℤ-comm}
+use Rattle.whole.specs.Words.{oneIf, odd, from, upto, those, chosen, isZeroZ, below0}
+use Rattle.rules.specs.Graph.{Graph, lin, edge, neighbours, row, addConstant, addLinear, addEdge, clear, dropTo}
+use Rattle.rules.specs.Eliminate.{absorb, delta, tee, eliminate}
+use Rattle.meaning.specs.Cost.{when, when-zero, sumTo, deltaOf}
+use Rattle.meaning.specs.CostLaws.{cost, Sound, drop-cost, clear-length, clear-zero, clear-other}
+use Rattle.meaning.specs.AbsorbLaws.{none-of, one-of, two-of}
+use Rattle.meaning.specs.Linear.{at, nil, _⊕_, _⊝_, solve}
+
+-- the mask of some decisions' values
+unfoldable pub maskAt : (ℕ → Bool) → List ℕ → ℕ
+maskAt x [] = 0
+maskAt x (j ∷ js) = oneIf (x j) + 2 * maskAt x js
+
+-- the sum of F over a list
+unfoldable pub over : (ℕ → ℤ) → List ℕ → ℤ
+over F [] = pos 0
+over F (j ∷ js) = F j +ℤ over F js
+
+pub odd-of : (b : Bool) (m : ℕ) → odd (oneIf b + 2 * m) ≡ b
+odd-of true m = ap (λ (r : ℕ). eqb r 1) r₁
+  where
+    r₁ : (1 + 2 * m) % 2 ≡ 1
+    r₁ = omega arith
+odd-of false m = ap (λ (r : ℕ). eqb r 1) r₀
+  where
+    r₀ : (0 + 2 * m) % 2 ≡ 0
+    r₀ = omega arith
+
+pub half-of : (b : Bool) (m : ℕ) → (oneIf b + 2 * m) / 2 ≡ m
+half-of true m = omega arith
+half-of false m = omega arith
+
+pub chosen-mask : (x : ℕ → Bool) (w : ℕ → ℤ) (js : List ℕ) → chosen (map w js) (maskAt x js) ≡ over (λ j. when (x j) (w j)) js
+unfolding chosen maskAt over
+chosen-mask x w [] = refl
+chosen-mask x w (j ∷ js) =
+    ap₂ (λ (b : Bool) (m : ℕ). when b (w j) +ℤ chosen (map w js) m) (odd-of (x j) (maskAt x js)) (half-of (x j) (maskAt x js))
+    ∙ ap (λ (z : ℤ). when (x j) (w j) +ℤ z) (chosen-mask x w js)
+
+over-from : (F : ℕ → ℤ) (k c : ℕ) → over F (from k (suc c)) ≡ over F (from k c) +ℤ F (k + c)
+unfolding over from
+over-from F k zero = +ℤ-idr (F k) ∙ ap F plus-zero ∙ sym (+ℤ-idl (F (k + zero)))
+  where
+    plus-zero : k ≡ k + zero
+    plus-zero = omega arith
+over-from F k (suc c) =
+    ap (λ (z : ℤ). F k +ℤ z) (over-from F (suc k) c ∙ ap (λ (m : ℕ). over F (from (suc k) c) +ℤ F m) shift) ∙ sym (+ℤ-assoc (F k) (over F (from (suc k) c)) (F (k + suc c)))
+  where
+    shift : suc k + c ≡ k + suc c
+    shift = omega arith
+
+pub over-upto : (F : ℕ → ℤ) (n : ℕ) → over F (upto n) ≡ sumTo F n
+unfolding over from sumTo
+over-upto F zero = refl
+over-upto F (suc n) = over-from F 0 n ∙ ap₂ (λ (a b : ℤ). a +ℤ b) (over-upto F n) (ap F zero-plus)
+  where
+    zero-plus : 0 + n ≡ n
+    zero-plus = omega arith
+
+pub zero-of : (z : ℤ) → isZeroZ z ≡ true → z ≡ pos 0
+zero-of (pos n) h = ap pos (lib.Dec.eqb→eq n 0 (subst T (sym h) tt))
+zero-of (negsuc n) h = absurd (subst T (sym h) tt)
+
+-- what is left out of a sum is 0
+pub over-those : (F w : ℕ → ℤ) → ((k : ℕ) → w k ≡ pos 0 → F k ≡ pos 0) → (js : List ℕ) → over F (those (λ j. not (isZeroZ (w j))) js) ≡ over F js
+unfolding over those
+over-those F w h [] = refl
+over-those F w h (j ∷ js) = go (isZeroZ (w j)) refl (over-those F w h js)
+  where
+    go : (b : Bool) → isZeroZ (w j) ≡ b → over F (those (λ j. not (isZeroZ (w j))) js) ≡ over F js
+        → over F (cond (not b) (j ∷ those (λ j. not (isZeroZ (w j))) js) (those (λ j. not (isZeroZ (w j))) js)) ≡ F j +ℤ over F js
+    go true e r = r ∙ sym (ap (λ (z : ℤ). z +ℤ over F js) (h j (zero-of (w j) e)) ∙ +ℤ-idl (over F js))
+    go false e r = ap (λ (z : ℤ). F j +ℤ z) r
+
+-- a sum over i's neighbours is the sum over all
+pub over-nbrs : (g : Graph) (i : ℕ) (F : ℕ → ℤ) → ((k : ℕ) → edge g i k ≡ pos 0 → F k ≡ pos 0) → over F (neighbours g i) ≡ sumTo F (g .n)
+unfolding neighbours
+over-nbrs g i F h = over-those F (edge g i) h (upto (g .n)) ∙ over-upto F (g .n)
+
+-- delta by the mask is delta at the plan
+pub delta-at : (g : Graph) (x : ℕ → Bool) (i : ℕ) → delta g i (maskAt x (neighbours g i)) ≡ deltaOf (g .n) (lin g) (edge g) x i
+delta-at g x i =
+    ap (λ (z : ℤ). lin g i +ℤ z)
+    (chosen-mask x (edge g i) (neighbours g i) ∙ over-nbrs g i (λ j. when (x j) (edge g i j)) (λ k e. ap (when (x k)) e ∙ when-zero (x k)))
+
+pub sound-drop : (t i : ℕ) (g : Graph) → Sound g → i < g .n → Sound (dropTo t i g)
+unfolding dropTo
+sound-drop t i g s li = record {
+  few = s .few;
+  linear-long = length-set (g .linear) i (pos 0) ∙ s .linear-long;
+  edges-long = clear-length i (g .n) (g .edges) ∙ s .edges-long;
+  states-long = length-set (g .states) i t ∙ s .states-long;
+  both = λ p q lp lq. go p q lp lq (ℕ-discrete p i) (ℕ-discrete q i);
+  self = λ p lp. own p lp (ℕ-discrete p i);
+}
+  where
+    in64 : (p : ℕ) → p < g .n → p < 64
+    in64 p lp = omega (arith, s .few)
+
+    zeros : (q : ℕ) → q < g .n → (edge (dropTo t i g) i q ≡ pos 0) × (edge (dropTo t i g) q i ≡ pos 0)
+    zeros q lq = clear-zero i (g .edges) q (in64 i li) (in64 q lq) (s .edges-long) (g .n) (s .few) lq
+
+    stands : (p q : ℕ) → p < g .n → q < g .n → p ≢ i → q ≢ i → edge (dropTo t i g) p q ≡ edge g p q
+    stands p q lp lq np nq = clear-other i (g .edges) p q (in64 i li) (in64 p lp) (in64 q lq) np nq (g .n) (s .few)
+
+    go : (p q : ℕ) → p < g .n → q < g .n → Dec (p ≡ i) → Dec (q ≡ i) → edge (dropTo t i g) p q ≡ edge (dropTo t i g) q p
+    go p q lp lq (yes e) d =
+        ap (λ (m : ℕ). edge (dropTo t i g) m q) e ∙ zeros q lq .0 ∙ sym (zeros q lq .1) ∙ ap (λ (m : ℕ). edge (dropTo t i g) q m) (sym e)
+    go p q lp lq (no np) (yes e) =
+        ap (λ (m : ℕ). edge (dropTo t i g) p m) e ∙ zeros p lp .1 ∙ sym (zeros p lp .0) ∙ ap (λ (m : ℕ). edge (dropTo t i g) m p) (sym e)
+    go p q lp lq (no np) (no nq) = stands p q lp lq np nq ∙ s .both p q lp lq ∙ sym (stands q p lq lp nq np)
+
+    own : (p : ℕ) → p < g .n → Dec (p ≡ i) → edge (dropTo t i g) p p ≡ pos 0
+    own p lp (yes e) = ap (λ (m : ℕ). edge (dropTo t i g) m p) e ∙ zeros p lp .0
+    own p lp (no np) = stands p p lp lp np np ∙ s .self p lp
+
+-- at most two decisions, each below n and different
+pub data Pair (n : ℕ) : List ℕ → Type 0 where
+  empty : Pair n []
+  single : {j : ℕ} → j < n → Pair n (j ∷ [])
+  double : {j k : ℕ} → j < n → k < n → j ≢ k → Pair n (j ∷ k ∷ [])
+
+pub absorb-cost : (g : Graph) (x : ℕ → Bool) (t : ℕ → ℤ) (ns : List ℕ) → Sound g → Pair (g .n) ns → cost (absorb t ns g) x ≡ cost g x +ℤ t (maskAt x ns)
+unfolding maskAt
+absorb-cost g x t [] s empty = none-of g x t
+absorb-cost g x t (j ∷ []) s (single lj) = one-of g x t j s lj ∙ ap (λ (m : ℕ). cost g x +ℤ t m) plain
+  where
+    plain : oneIf (x j) ≡ oneIf (x j) + 2 * 0
+    plain = omega arith
+absorb-cost g x t (j ∷ k ∷ []) s (double lj lk jk) = two-of g x t j k s lj lk jk ∙ ap (λ (m : ℕ). cost g x +ℤ t m) plain
+  where
+    plain : oneIf (x j) + 2 * oneIf (x k) ≡ oneIf (x j) + 2 * (oneIf (x k) + 2 * 0)
+    plain = omega arith
+
+-- the law of Eliminate: the reduced cost is the old one with T for what i costs
+pub eliminate-cost : (g : Graph) (x : ℕ → Bool) (i : ℕ) → Sound g → i < g .n → Pair (g .n) (neighbours g i)
+    → cost (eliminate i g) x +ℤ when (x i) (delta g i (maskAt x (neighbours g i))) ≡ cost g x +ℤ below0 (delta g i (maskAt x (neighbours g i)))
+unfolding eliminate dropTo
+eliminate-cost g x i s li p =
+    ap (λ (z : ℤ). z +ℤ when (x i) (delta g i (maskAt x (neighbours g i)))) (absorb-cost (dropTo 3 i g) x (tee g i) (neighbours g i) (sound-drop 3 i g s li) p)
+    ∙ turn (cost (dropTo 3 i g) x) (tee g i (maskAt x (neighbours g i))) (when (x i) (delta g i (maskAt x (neighbours g i))))
+    ∙ ap (λ (z : ℤ). z +ℤ tee g i (maskAt x (neighbours g i)))
+    (ap (λ (z : ℤ). cost (dropTo 3 i g) x +ℤ when (x i) z) (delta-at g x i) ∙ sym (drop-cost g x 3 i s li))
+  where
+    turn : (a b c : ℤ) → a +ℤ b +ℤ c ≡ a +ℤ c +ℤ b
+    turn a b c = solve (a ∷ b ∷ c ∷ []) (at 0 ⊕ at 1 ⊕ at 2) (at 0 ⊕ at 2 ⊕ at 1) tt

@@ -1,0 +1,14 @@
+pub mod Cost
+pub mod Linear
+pub mod CostLaws
+pub mod AbsorbLaws
+pub mod EliminateLaws
+pub mod OrderZ
+pub mod ReduceLaws
+pub mod RunLaws
+pub mod OverLists
+pub mod Neat
+pub mod Growth
+pub mod BlockCost
+pub mod Found
+pub mod BlockSteps

@@ -1,0 +1,163 @@
+-- Edges join active decisions only: kept by the updates and by eliminating a block; with it the search for a block is well founded (`neat-network`, `neat-tidy`).
+-- Assumes nothing.
+use mathlib.Core.Path.{_≡_, refl, sym, ap, ap₂, _∙_, subst}
+use mathlib.Core.Bool.{Bool, true, false, cond, not, _&&_, _||_}
+use mathlib.Core.List.{List, [], _∷_, _++_}
+use mathlib.Core.Logic.{_≢_}
+use Prim.Native.Nat.{ℕ, zero, suc, _+_, _*_, _<_, _≤_}
+use native.Mathlib.Omega.{arith}
+use native.Mathlib.Decide.{ℕ-discrete}
+use lib.Dec.{eqb}
+use lib.ListN.{length, getD, set}
+use lib.Seq.{getD-set-other}
+use lib.IntN.{ℤ, pos, _+ℤ_, _-ℤ_}
+use Rattle.whole.specs.Words.{isZeroZ, upto, mem, those, some}
+use Rattle.rules.specs.Graph.{Graph, lin, edge, active, neighbours, addConstant, addLinear, addEdge, clear, dropTo}
+use Rattle.rules.specs.Eliminate.{absorb}
+use Rattle.rules.specs.SmallBlock.{boundary, dropAll, eliminateBlock, blockTable, findBlock, members}
+use Rattle.meaning.specs.CostLaws.{Sound, clear-zero}
+use Rattle.meaning.specs.AbsorbLaws.{sound-base, sound-lin, sound-edge}
+use Rattle.meaning.specs.EliminateLaws.{sound-drop, Pair, empty, single, double}
+use Rattle.whole.specs.Pigeon.{Apart, none, one}
+use Rattle.whole.specs.Tests.{cases, clash, refuse, off-not, and-true}
+use Rattle.whole.specs.Members.{in-cons, in-head, in-tail, in-those, to-those, in-upto, upto-in, out-cons, apart-head, apart-tail, apart-below, apart-those, apart-upto}
+use Rattle.meaning.specs.Growth.{Network, in-nbrs, to-nbrs}
+use Rattle.meaning.specs.BlockCost.{boundary-apart, boundary-outside, pair-of, drop-all-n, drop-all-sound}
+use Rattle.meaning.specs.Found.{Tidy, some-witness, SmallBlock, found-block}
+
+abbrev pub Live : Graph → ℕ → Type 0
+Live g i = (i < g .n) × (active g i ≡ true)
+
+pub record Neat (g : Graph) : Type 0 where
+  pub ends : (i j : ℕ) → i < 64 → j < 64 → isZeroZ (edge g i j) ≡ false → Live g i × Live g j
+
+pub neat-tidy : (g : Graph) → Sound g → Neat g → Tidy g
+neat-tidy g s w i j li m =
+    let few : g .n ≤ 64 = s .few in
+    let p = in-nbrs g i j m in
+    w .ends i j (omega arith) (omega (arith, p .0)) (p .1) .1 .1
+
+wider : {m n : ℕ} {xs : List ℕ} → m ≤ n → Apart m xs → Apart n xs
+wider h none = none
+wider h (one {x = x} l d a) = one {x = x} (omega arith) d (wider h a)
+
+pub neat-network : (g : Graph) → Sound g → Neat g → Network 64 (neighbours g)
+unfolding neighbours
+neat-network g s w = record {
+  few = omega arith;
+  apart = λ i. wider (s .few) (apart-those (λ j. not (isZeroZ (edge g i j))) (apart-upto (g .n)));
+  self = λ i l. refuse (mem i (neighbours g i)) (λ t. let p = in-nbrs g i i t in clash (ap isZeroZ (s .self i (p .0))) (p .1));
+  both = λ i j l m.
+      let p = in-nbrs g i j m in
+      let e = w .ends i j l (low j (p .0)) (p .1) in
+      to-nbrs g j i (e .0 .0) (ap isZeroZ (s .both j i (p .0) (e .0 .0)) ∙ p .1);
+}
+  where
+    low : (j : ℕ) → j < g .n → j < 64
+    low j b = omega (arith, s .few)
+
+-- ---- kept by the updates
+pub neat-base : (v : ℤ) (g : Graph) → Neat g → Neat (addConstant v g)
+unfolding addConstant
+neat-base v g w = record { ends = w .ends }
+
+pub neat-lin : (k : ℕ) (v : ℤ) (g : Graph) → Neat g → Neat (addLinear k v g)
+unfolding addLinear
+neat-lin k v g w = record { ends = w .ends }
+
+pub neat-edge : (k l : ℕ) (v : ℤ) (g : Graph) → Sound g → Neat g → Live g k → Live g l → Neat (addEdge k l v g)
+unfolding addEdge
+neat-edge k l v g s w lk ll = record { ends = λ i j li lj e. go i j li lj e (ℕ-discrete (64 * i + j) (64 * l + k)) (ℕ-discrete (64 * i + j) (64 * k + l)) }
+  where
+    in64 : (m : ℕ) → m < g .n → m < 64
+    in64 m b = omega (arith, s .few)
+
+    place : (i j p q : ℕ) → j < 64 → q < 64 → 64 * i + j ≡ 64 * p + q → (i ≡ p) × (j ≡ q)
+    place i j p q lj lq e = (omega arith, omega arith)
+
+    at : (i j p q : ℕ) → Live g p → Live g q → (i ≡ p) × (j ≡ q) → Live g i × Live g j
+    at i j p q a b e = (subst (Live g) (sym (e .0)) a, subst (Live g) (sym (e .1)) b)
+
+    go : (i j : ℕ) → i < 64 → j < 64 → isZeroZ (edge (addEdge k l v g) i j) ≡ false → Dec (64 * i + j ≡ 64 * l + k) → Dec (64 * i + j ≡ 64 * k + l) → Live g i × Live g j
+    go i j li lj e (yes p) d = at i j l k ll lk (place i j l k lj (in64 k (lk .0)) p)
+    go i j li lj e (no p) (yes q) = at i j k l lk ll (place i j k l lj (in64 l (ll .0)) q)
+    go i j li lj e (no p) (no q) =
+        w .ends i j li lj (ap isZeroZ (sym (getD-set-other (set (g .edges) (64 * k + l) (edge g k l +ℤ v)) (64 * l + k) (64 * i + j) (edge g l k +ℤ v) (pos 0) p
+        ∙ getD-set-other (g .edges) (64 * k + l) (64 * i + j) (edge g k l +ℤ v) (pos 0) q)) ∙ e)
+
+-- clearing only makes zeros
+set-keeps : (e : List ℤ) (m p : ℕ) → isZeroZ (getD (set e m (pos 0)) p (pos 0)) ≡ false → getD (set e m (pos 0)) p (pos 0) ≡ getD e p (pos 0)
+set-keeps [] m p h = refl
+set-keeps (a ∷ e) zero zero h = clash refl h
+set-keeps (a ∷ e) zero (suc p) h = refl
+set-keeps (a ∷ e) (suc m) zero h = refl
+set-keeps (a ∷ e) (suc m) (suc p) h = set-keeps e m p h
+
+clear-keeps : (i c : ℕ) (e : List ℤ) (p : ℕ) → isZeroZ (getD (clear i c e) p (pos 0)) ≡ false → getD (clear i c e) p (pos 0) ≡ getD e p (pos 0)
+unfolding clear
+clear-keeps i zero e p h = refl
+clear-keeps i (suc c) e p h =
+    let one = set-keeps (set (clear i c e) (64 * i + c) (pos 0)) (64 * c + i) p h in
+    let two = set-keeps (clear i c e) (64 * i + c) p (ap isZeroZ (sym one) ∙ h) in
+    one ∙ two ∙ clear-keeps i c e p (ap isZeroZ (sym (one ∙ two)) ∙ h)
+
+live-drop : (t i k : ℕ) (g : Graph) → k ≢ i → Live g k → Live (dropTo t i g) k
+unfolding dropTo
+live-drop t i k g d l = (l .0, ap (λ (z : ℕ). eqb z 2) (getD-set-other (g .states) i k t 0 d) ∙ l .1)
+
+pub neat-drop : (t i : ℕ) (g : Graph) → Sound g → Neat g → i < g .n → Neat (dropTo t i g)
+unfolding dropTo
+neat-drop t i g s w li = record {
+  ends = λ p q lp lq e.
+      let l = w .ends p q lp lq (ap isZeroZ (sym (clear-keeps i (g .n) (g .edges) (64 * p + q) e)) ∙ e) in (
+        live-drop t i p g (λ z. clash (ap isZeroZ (ap (λ (m : ℕ). getD (clear i (g .n) (g .edges)) (64 * m + q) (pos 0)) z ∙ zeros q (l .1 .0) .0)) e) (l .0),
+        live-drop t i q g (λ z. clash (ap isZeroZ (ap (λ (m : ℕ). getD (clear i (g .n) (g .edges)) (64 * p + m) (pos 0)) z ∙ zeros p (l .0 .0) .1)) e) (l .1),
+      );
+}
+  where
+    zeros : (q : ℕ) → q < g .n → (getD (clear i (g .n) (g .edges)) (64 * i + q) (pos 0) ≡ pos 0) × (getD (clear i (g .n) (g .edges)) (64 * q + i) (pos 0) ≡ pos 0)
+    zeros q lq =
+        let few : g .n ≤ 64 = s .few in
+        clear-zero i (g .edges) q (omega (arith, li)) (omega (arith, lq)) (s .edges-long) (g .n) few lq
+
+-- ---- kept by a block's elimination
+pub neat-drop-all : (b : List ℕ) (g : Graph) → Sound g → Neat g → Apart (g .n) b → Neat (dropAll b g)
+unfolding dropAll dropTo
+neat-drop-all [] g s w a = w
+neat-drop-all (i ∷ is) g s w a = neat-drop-all is (dropTo 3 i g) (sound-drop 3 i g s (apart-head a)) (neat-drop 3 i g s w (apart-head a)) (apart-tail a)
+
+pub live-drop-all : (b : List ℕ) (g : Graph) (k : ℕ) → mem k b ≡ false → Live g k → Live (dropAll b g) k
+unfolding dropAll
+live-drop-all [] g k m l = l
+live-drop-all (i ∷ is) g k m l = let p = out-cons k i is m in live-drop-all is (dropTo 3 i g) k (p .1) (live-drop 3 i k g (p .0) l)
+
+pub absorb-keeps : (t : ℕ → ℤ) (ns : List ℕ) (g : Graph) → Sound g → Neat g → Pair (g .n) ns → ((k : ℕ) → mem k ns ≡ true → Live g k) → Sound (absorb t ns g) × Neat (absorb t ns g)
+unfolding absorb addConstant addLinear
+absorb-keeps t [] g s w empty h = (sound-base (t 0) g s, neat-base (t 0) g w)
+absorb-keeps t (j ∷ []) g s w (single lj) h =
+    (sound-lin j (t 1 -ℤ t 0) (addConstant (t 0) g) (sound-base (t 0) g s), neat-lin j (t 1 -ℤ t 0) (addConstant (t 0) g) (neat-base (t 0) g w))
+absorb-keeps t (j ∷ k ∷ []) g s w (double lj lk d) h =
+    let g₁ : Graph = addLinear k (t 2 -ℤ t 0) (addLinear j (t 1 -ℤ t 0) (addConstant (t 0) g)) in
+    let s₁ : Sound g₁ = sound-lin k (t 2 -ℤ t 0) (addLinear j (t 1 -ℤ t 0) (addConstant (t 0) g)) (sound-lin j (t 1 -ℤ t 0) (addConstant (t 0) g) (sound-base (t 0) g s)) in
+    let w₁ : Neat g₁ = neat-lin k (t 2 -ℤ t 0) (addLinear j (t 1 -ℤ t 0) (addConstant (t 0) g)) (neat-lin j (t 1 -ℤ t 0) (addConstant (t 0) g) (neat-base (t 0) g w)) in
+    (sound-edge g₁ j k (t 3 -ℤ t 1 -ℤ t 2 +ℤ t 0) s₁ lj lk d, neat-edge j k (t 3 -ℤ t 1 -ℤ t 2 +ℤ t 0) g₁ s₁ w₁ (h j (in-head j (k ∷ []))) (h k (in-tail k j (k ∷ []) (in-head k []))))
+
+-- an outside neighbour is active
+boundary-live : (g : Graph) (b : List ℕ) → Sound g → Neat g → Apart (g .n) b → (k : ℕ) → mem k (boundary g b) ≡ true → Live g k
+unfolding boundary
+boundary-live g b s w a k h =
+    let p = in-those (λ j. not (mem j b) && some (λ i. not (isZeroZ (edge g i j))) b) k (upto (g .n)) h in
+    let q = and-true (not (mem k b)) (some (λ i. not (isZeroZ (edge g i k))) b) (p .1) in
+    some-witness (λ i. not (isZeroZ (edge g i k))) b (q .1)
+    (λ i mi e. w .ends i k (low i (apart-below i a mi)) (low k (upto-in k (g .n) (p .0))) (off-not (isZeroZ (edge g i k)) e) .1)
+  where
+    low : (j : ℕ) → j < g .n → j < 64
+    low j b = omega (arith, s .few)
+
+pub block-keeps : (g : Graph) (b : List ℕ) → Sound g → Neat g → findBlock g ≡ members b → Sound (eliminateBlock b g) × Neat (eliminateBlock b g)
+unfolding eliminateBlock
+block-keeps g b s w e =
+    let f : SmallBlock g b = found-block g b s e in
+    absorb-keeps (blockTable g b) (boundary g b) (dropAll b g) (drop-all-sound b g s (f .apart)) (neat-drop-all b g s w (f .apart))
+    (subst (λ (n : ℕ). Pair n (boundary g b)) (sym (drop-all-n b g)) (pair-of (boundary-apart g b) (f .narrow)))
+    (λ k m. live-drop-all b g k (boundary-outside g b k m) (boundary-live g b s w (f .apart) k m))

@@ -1,0 +1,1 @@
+// What the rules mean, as theorems about them: all in specs/.

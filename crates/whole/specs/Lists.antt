@@ -1,0 +1,73 @@
+-- Laws of lists that are filled from the front.
+-- Assumes nothing.
+use Prim.Native.Nat.{ℕ, zero, suc, _+_, _-_, _<_, _≤_}
+use mathlib.Core.Path.{_≡_, refl, ap, sym, _∙_}
+use mathlib.Core.List.{List, [], _∷_, _++_, map, append-nil, append-assoc}
+use native.Mathlib.Numerals.{add-one}
+use native.Mathlib.Nat.{add-zero, add-suc}
+use native.Mathlib.Omega.{arith}
+use lib.ListN.{length, getD, set, drop, replicate, length-append, List·getD-append}
+use native.Mathlib.Decide.{ℕ-discrete}
+use lib.Seq.{drop-cons, drop-length, set-at, append-snoc, getD-at}
+use Rattle.whole.specs.Words.{tab, from}
+
+module _ {A : Type 0} (f : ℕ → A) where
+  pub length-tab : (k : ℕ) → length (tab f k) ≡ k
+  unfolding tab
+  length-tab zero = refl
+  length-tab (suc k) = rw (length-append, length-tab k) (omega arith)
+
+  pub fill-none : (o : List A) → o ≡ tab f 0 ++ drop 0 o
+  unfolding tab
+  fill-none o = refl
+
+  pub fill-turn : (o : List A) (k : ℕ) → k < length o → set (tab f k ++ drop k o) k (f k) ≡ tab f (k + 1) ++ drop (k + 1) o
+  unfolding tab
+  fill-turn o k h =
+      rw (add-one, drop-cons o k (f k) h)
+      (set-at (tab f k) _ (drop (suc k) o) (f k) k (length-tab k) ∙ sym (append-snoc (tab f k) (f k) (drop (suc k) o)))
+
+  pub fill-end : (o : List A) (k n : ℕ) → length o ≡ n → k ≡ n → tab f k ++ drop k o ≡ tab f n
+  fill-end o k n l e = rw (e, ← l, drop-length) (append-nil _)
+
+  -- a turn, as a loop's proof has it
+  pub fill-step : (o₀ o : List A) (k : ℕ) (v : A) → k < length o₀ → o ≡ tab f k ++ drop k o₀ → v ≡ f k → set o k v ≡ tab f (k + 1) ++ drop (k + 1) o₀
+  fill-step o₀ o k v h e d = ap (set o k) d ∙ ap (λ (t : List A). set t k (f k)) e ∙ fill-turn o₀ k h
+
+  -- the same list, from the front
+  tab-from : (a c : ℕ) → tab f a ++ map f (from a c) ≡ tab f (a + c)
+  unfolding tab from
+  tab-from a zero = rw add-zero (append-nil _)
+  tab-from a (suc c) =
+      let e : suc a + c ≡ a + suc c = omega arith in
+      sym (append-snoc (tab f a) (f a) (map f (from (suc a) c))) ∙ tab-from (suc a) c ∙ ap (tab f) e
+
+  pub tab-map : (n : ℕ) → map f (from 0 n) ≡ tab f n
+  unfolding tab
+  tab-map n = let e : 0 + n ≡ n = omega arith in tab-from 0 n ∙ ap (tab f) e
+
+pub drop-replicate : {A : Type 0} (n m : ℕ) (a : A) → n ≤ m → drop n (replicate m a) ≡ replicate (m - n) a
+drop-replicate zero m a h = let e : m ≡ m - 0 = omega arith in ap (λ (k : ℕ). replicate k a) e
+drop-replicate (suc n) zero a h = absurd (omega arith)
+drop-replicate (suc n) (suc m) a h = let e : m - n ≡ suc m - suc n = omega arith in drop-replicate n m a (omega arith) ∙ ap (λ (k : ℕ). replicate k a) e
+
+-- a constant, n times
+pub tab-replicate : {A : Type 0} (a : A) (n : ℕ) → tab (λ k. a) n ≡ replicate n a
+unfolding tab
+tab-replicate a zero = refl
+tab-replicate a (suc n) = rw (tab-replicate a n) (snoc n)
+  where
+    snoc : (n : ℕ) → replicate n a ++ (a ∷ []) ≡ replicate (suc n) a
+    snoc zero = refl
+    snoc (suc n) = ap (λ t. a ∷ t) (snoc n)
+
+pub tab-at : {A : Type 0} (f : ℕ → A) (n j : ℕ) (d : A) → j < n → getD (tab f n) j d ≡ f j
+unfolding tab
+tab-at f zero j d h = absurd (omega arith)
+tab-at f (suc k) j d h = by (ℕ-discrete j k) (λ l. tab-at f k j d l)
+  where
+    by : Dec (j ≡ k) → (j < k → getD (tab f k) j d ≡ f j) → getD (tab f k ++ (f k ∷ [])) j d ≡ f j
+    by (yes e) r = rw e (getD-at (tab f k) (f k) [] d k (length-tab f k))
+    by (no e) r =
+        let l : j < length (tab f k) = rw length-tab (omega arith) in
+        List·getD-append (tab f k) (f k ∷ []) d j l ∙ r (omega arith)

@@ -1,0 +1,63 @@
+-- Tests as values of Bool, taken by cases and joined.
+-- Assumes nothing.
+use mathlib.Core.Path.{_≡_, refl, sym, ap, _∙_, subst}
+use mathlib.Core.Bool.{Bool, true, false, cond, not, _&&_, _||_}
+use lib.Dec.{T}
+
+-- a test, taken by cases
+pub cases : (b : Bool) {P : Type 0} → (b ≡ true → P) → (b ≡ false → P) → P
+cases true t f = t refl
+cases false t f = f refl
+
+pub clash : {b : Bool} {P : Type 0} → b ≡ true → b ≡ false → P
+clash p q = absurd (subst T (sym p ∙ q) tt)
+
+pub or-true : (a b : Bool) {P : Type 0} → (a || b) ≡ true → (a ≡ true → P) → (b ≡ true → P) → P
+or-true true b h p q = p refl
+or-true false b h p q = q h
+
+pub or-false : (a b : Bool) → (a || b) ≡ false → (a ≡ false) × (b ≡ false)
+or-false true b h = clash refl h
+or-false false b h = (refl, h)
+
+pub or-left : {a : Bool} (b : Bool) → a ≡ true → (a || b) ≡ true
+or-left b h = ap (λ (c : Bool). c || b) h
+
+pub or-right : (a : Bool) {b : Bool} → b ≡ true → (a || b) ≡ true
+or-right true h = refl
+or-right false h = h
+
+pub or-none : {a b : Bool} → a ≡ false → b ≡ false → (a || b) ≡ false
+or-none {b = b} p q = ap (λ (c : Bool). c || b) p ∙ q
+
+pub and-true : (a b : Bool) → (a && b) ≡ true → (a ≡ true) × (b ≡ true)
+and-true true b h = (refl, h)
+and-true false b h = clash h refl
+
+pub and-both : {a b : Bool} → a ≡ true → b ≡ true → (a && b) ≡ true
+and-both {b = b} p q = ap (λ (c : Bool). c && b) p ∙ q
+
+pub not-off : {a : Bool} → a ≡ false → not a ≡ true
+not-off h = ap not h
+
+pub not-on : {a : Bool} → a ≡ true → not a ≡ false
+not-on h = ap not h
+
+pub off-not : (a : Bool) → not a ≡ true → a ≡ false
+off-not true h = sym h
+off-not false h = refl
+
+pub on-not : (a : Bool) → not a ≡ false → a ≡ true
+on-not true h = refl
+on-not false h = sym h
+
+-- what is not true is false
+pub refuse : (a : Bool) → (a ≡ true → ⊥) → a ≡ false
+refuse true h = absurd (h refl)
+refuse false h = refl
+
+-- two tests that imply each other are the same
+pub same-test : (a b : Bool) → (a ≡ true → b ≡ true) → (b ≡ true → a ≡ true) → a ≡ b
+same-test true b p q = sym (p refl)
+same-test false true p q = q refl
+same-test false false p q = refl
