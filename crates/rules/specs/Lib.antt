@@ -17,3 +17,4 @@ pub mod ReadText
 pub mod WriteText
 pub mod Program
 pub mod Examples
+pub mod RecordExamples
