@@ -1,4 +1,4 @@
--- The updates keep a graph sound, and a table over the masks of at most two decisions, once absorbed, is added to the cost: the mask facts of Eliminate and of a block.
+-- The updates keep a graph shaped, and a table over the masks of at most two decisions, once absorbed, is added to the cost: the mask facts of Eliminate and of a block.
 -- Assumes nothing.
 use mathlib.Core.Path.{_≡_, refl, sym, ap, ap₂, _∙_, subst}
 use mathlib.Core.Bool.{Bool, true, false, cond}
@@ -14,16 +14,16 @@ use Rattle.rules.specs.Graph.{Graph, lin, edge, addConstant, addLinear, addEdge
 use Rattle.rules.specs.Eliminate.{absorb}
 use Rattle.rules.specs.DegreeThree.{absorb3, moebius, pass}
 use Rattle.meaning.specs.Cost.{when}
-use Rattle.meaning.specs.CostLaws.{cost, Sound, base-cost, lin-cost, edge-cost, here, there, elsewhere}
+use Rattle.meaning.specs.CostLaws.{cost, Shaped, base-cost, lin-cost, edge-cost, here, there, elsewhere}
 use Rattle.meaning.specs.Linear.{at, nil, _⊕_, _⊝_, solve}
 
-pub sound-base : (v : ℤ) (g : Graph) → Sound g → Sound (addConstant v g)
+pub shaped-base : (v : ℤ) (g : Graph) → Shaped g → Shaped (addConstant v g)
 unfolding addConstant
-sound-base v g s = record { few = s .few; linear-long = s .linear-long; edges-long = s .edges-long; states-long = s .states-long; both = s .both; self = s .self }
+shaped-base v g s = record { few = s .few; linear-long = s .linear-long; edges-long = s .edges-long; states-long = s .states-long; both = s .both; self = s .self }
 
-pub sound-lin : (k : ℕ) (v : ℤ) (g : Graph) → Sound g → Sound (addLinear k v g)
+pub shaped-lin : (k : ℕ) (v : ℤ) (g : Graph) → Shaped g → Shaped (addLinear k v g)
 unfolding addLinear
-sound-lin k v g s = record {
+shaped-lin k v g s = record {
   few = s .few;
   linear-long = length-set (g .linear) k (lin g k +ℤ v) ∙ s .linear-long;
   edges-long = s .edges-long;
@@ -37,9 +37,9 @@ both? (yes a) (yes b) = yes (a, b)
 both? (yes a) (no f) = no (λ p. f (p .1))
 both? (no f) d = no (λ p. f (p .0))
 
-pub sound-edge : (g : Graph) (k l : ℕ) (v : ℤ) → Sound g → k < g .n → l < g .n → k ≢ l → Sound (addEdge k l v g)
+pub shaped-edge : (g : Graph) (k l : ℕ) (v : ℤ) → Shaped g → k < g .n → l < g .n → k ≢ l → Shaped (addEdge k l v g)
 unfolding addEdge
-sound-edge g k l v s lk ll kl = record {
+shaped-edge g k l v s lk ll kl = record {
   few = s .few;
   linear-long = s .linear-long;
   edges-long =
@@ -65,23 +65,23 @@ pub none-of : (g : Graph) (x : ℕ → Bool) (t : ℕ → ℤ) → cost (absorb 
 unfolding absorb
 none-of g x t = base-cost g x (t 0)
 
-pub one-of : (g : Graph) (x : ℕ → Bool) (t : ℕ → ℤ) (j : ℕ) → Sound g → j < g .n → cost (absorb t (j ∷ []) g) x ≡ cost g x +ℤ t (oneIf (x j))
+pub one-of : (g : Graph) (x : ℕ → Bool) (t : ℕ → ℤ) (j : ℕ) → Shaped g → j < g .n → cost (absorb t (j ∷ []) g) x ≡ cost g x +ℤ t (oneIf (x j))
 unfolding absorb addConstant
 one-of g x t j s lj =
-    lin-cost (addConstant (t 0) g) x j (t 1 -ℤ t 0) (sound-base (t 0) g s) lj ∙ ap (λ (z : ℤ). z +ℤ when (x j) (t 1 -ℤ t 0)) (base-cost g x (t 0))
+    lin-cost (addConstant (t 0) g) x j (t 1 -ℤ t 0) (shaped-base (t 0) g s) lj ∙ ap (λ (z : ℤ). z +ℤ when (x j) (t 1 -ℤ t 0)) (base-cost g x (t 0))
     ∙ sums (x j)
   where
     sums : (b : Bool) → cost g x +ℤ t 0 +ℤ when b (t 1 -ℤ t 0) ≡ cost g x +ℤ t (oneIf b)
     sums true = solve (cost g x ∷ t 0 ∷ t 1 ∷ []) (at 0 ⊕ at 1 ⊕ (at 2 ⊝ at 1)) (at 0 ⊕ at 2) tt
     sums false = solve (cost g x ∷ t 0 ∷ []) (at 0 ⊕ at 1 ⊕ nil) (at 0 ⊕ at 1) tt
 
-pub two-of : (g : Graph) (x : ℕ → Bool) (t : ℕ → ℤ) (j k : ℕ) → Sound g → j < g .n → k < g .n → j ≢ k
+pub two-of : (g : Graph) (x : ℕ → Bool) (t : ℕ → ℤ) (j k : ℕ) → Shaped g → j < g .n → k < g .n → j ≢ k
     → cost (absorb t (j ∷ k ∷ []) g) x ≡ cost g x +ℤ t (oneIf (x j) + 2 * oneIf (x k))
 unfolding absorb addConstant addLinear
 two-of g x t j k s lj lk jk =
-    let s₁ : Sound (addConstant (t 0) g) = sound-base (t 0) g s in
-    let s₂ : Sound (addLinear j (t 1 -ℤ t 0) (addConstant (t 0) g)) = sound-lin j (t 1 -ℤ t 0) (addConstant (t 0) g) s₁ in
-    let s₃ : Sound (addLinear k (t 2 -ℤ t 0) (addLinear j (t 1 -ℤ t 0) (addConstant (t 0) g))) = sound-lin k (t 2 -ℤ t 0) (addLinear j (t 1 -ℤ t 0) (addConstant (t 0) g)) s₂ in
+    let s₁ : Shaped (addConstant (t 0) g) = shaped-base (t 0) g s in
+    let s₂ : Shaped (addLinear j (t 1 -ℤ t 0) (addConstant (t 0) g)) = shaped-lin j (t 1 -ℤ t 0) (addConstant (t 0) g) s₁ in
+    let s₃ : Shaped (addLinear k (t 2 -ℤ t 0) (addLinear j (t 1 -ℤ t 0) (addConstant (t 0) g))) = shaped-lin k (t 2 -ℤ t 0) (addLinear j (t 1 -ℤ t 0) (addConstant (t 0) g)) s₂ in
     edge-cost (addLinear k (t 2 -ℤ t 0) (addLinear j (t 1 -ℤ t 0) (addConstant (t 0) g))) j k (t 3 -ℤ t 1 -ℤ t 2 +ℤ t 0) s₃ lj lk jk x
     ∙ ap (λ (z : ℤ). z +ℤ when (x j) (when (x k) (t 3 -ℤ t 1 -ℤ t 2 +ℤ t 0)))
     (lin-cost (addLinear j (t 1 -ℤ t 0) (addConstant (t 0) g)) x k (t 2 -ℤ t 0) s₂ lk

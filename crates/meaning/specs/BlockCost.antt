@@ -23,15 +23,15 @@ use Rattle.rules.specs.Graph.{Graph, lin, edge, row, clear, dropTo}
 use Rattle.rules.specs.Eliminate.{absorb}
 use Rattle.rules.specs.SmallBlock.{boundary, inner, cheapest, bestMask, blockTable, dropAll, eliminateBlock}
 use Rattle.meaning.specs.Cost.{when, when-zero, sumTo, sum-ext, sum-zero, rowCost, costOf, deltaOf}
-use Rattle.meaning.specs.CostLaws.{cost, Sound, drop-cost, clear-zero, clear-other}
-use Rattle.meaning.specs.EliminateLaws.{maskAt, over, odd-of, half-of, chosen-mask, zero-of, sound-drop, Pair, empty, single, double, absorb-cost}
+use Rattle.meaning.specs.CostLaws.{cost, Shaped, drop-cost, clear-zero, clear-other}
+use Rattle.meaning.specs.EliminateLaws.{maskAt, over, odd-of, half-of, chosen-mask, zero-of, shaped-drop, Pair, empty, single, double, absorb-cost}
 use Rattle.whole.specs.Pigeon.{Apart, none, one}
 use Rattle.whole.specs.Tests.{cases, clash, or-false, and-both, not-off, on-not, off-not, refuse}
 use Rattle.whole.specs.Members.{in-cons, in-head, in-tail, in-left, in-right, out-append, out-both, out-cons, out-of-cons, differ, in-those, to-those, in-upto, some-false, some-true, apart-head, apart-new, apart-tail, apart-left, apart-right, apart-below, apart-join, apart-those, apart-upto}
 use Rattle.meaning.specs.OverLists.{over-append, over-all}
 
 -- ---- what dropping i leaves alone, and what it makes 0
-module _ (g : Graph) (s : Sound g) (i : ℕ) (li : i < g .n) where
+module _ (g : Graph) (s : Shaped g) (i : ℕ) (li : i < g .n) where
   drop-lin : (k : ℕ) → k ≢ i → lin (dropTo 3 i g) k ≡ lin g k
   unfolding dropTo
   drop-lin k d = getD-set-other (g .linear) i k (pos 0) (pos 0) d
@@ -68,7 +68,7 @@ pull g x i j = when (x j) (edge g i j)
 
 module _ (x : ℕ → Bool) (out : List ℕ) where
   -- delta of a member: its weight, its edges to the boundary and those to the members after it
-  member-delta : (g : Graph) (i : ℕ) (is : List ℕ) → Sound g → Apart (g .n) (i ∷ is ++ out) → Inside g (i ∷ is) out
+  member-delta : (g : Graph) (i : ℕ) (is : List ℕ) → Shaped g → Apart (g .n) (i ∷ is ++ out) → Inside g (i ∷ is) out
       → deltaOf (g .n) (lin g) (edge g) x i ≡ lin g i +ℤ chosen (row g i out) (maskAt x out) +ℤ chosen (row g i is) (maskAt x is)
   member-delta g i is s a h =
       ap (λ (z : ℤ). lin g i +ℤ z)
@@ -84,7 +84,7 @@ module _ (x : ℕ → Bool) (out : List ℕ) where
       turn : (a b c : ℤ) → a +ℤ (b +ℤ c) ≡ a +ℤ c +ℤ b
       turn a b c = simp ints (omega zarith)
 
-  inside-drop : (g : Graph) (i : ℕ) (is : List ℕ) → Sound g → Apart (g .n) (i ∷ is ++ out) → Inside g (i ∷ is) out → Inside (dropTo 3 i g) is out
+  inside-drop : (g : Graph) (i : ℕ) (is : List ℕ) → Shaped g → Apart (g .n) (i ∷ is ++ out) → Inside g (i ∷ is) out → Inside (dropTo 3 i g) is out
   unfolding dropTo
   inside-drop g i is s a h k j mk lj mj = cases (eqb j i)
       (λ e. ap (edge (dropTo 3 i g) k) (eqb-true j i e) ∙ gone)
@@ -105,7 +105,7 @@ module _ (x : ℕ → Bool) (out : List ℕ) where
           clear-zero i (g .edges) k (omega (arith, li)) (omega (arith, lk)) (s .edges-long) (g .n) few lk .1
 
   -- the cost is what is left without the members, and the members' own cost
-  pub inside-cost : (g : Graph) (b : List ℕ) → Sound g → Apart (g .n) (b ++ out) → Inside g b out
+  pub inside-cost : (g : Graph) (b : List ℕ) → Shaped g → Apart (g .n) (b ++ out) → Inside g b out
       → cost g x ≡ cost (dropAll b g) x +ℤ inner g out (maskAt x out) b (maskAt x b)
   unfolding dropAll inner maskAt dropTo
   inside-cost g [] s a h = sym (+ℤ-idr (cost g x))
@@ -115,7 +115,7 @@ module _ (x : ℕ → Bool) (out : List ℕ) where
       let rest = apart-tail a in
       drop-cost g x 3 i s li
       ∙ ap₂ (λ (u v : ℤ). u +ℤ when (x i) v)
-      (inside-cost (dropTo 3 i g) is (sound-drop 3 i g s li) rest (inside-drop g i is s a h)
+      (inside-cost (dropTo 3 i g) is (shaped-drop 3 i g s li) rest (inside-drop g i is s a h)
       ∙ ap (λ (z : ℤ). cost (dropAll is (dropTo 3 i g)) x +ℤ z)
       (drop-inner g s i li out is (maskAt x out) (maskAt x is) (apart-right is out rest) (no .1) (apart-left is out rest) (no .0)))
       (member-delta g i is s a h)
@@ -213,10 +213,10 @@ unfolding dropAll dropTo
 drop-all-n [] g = refl
 drop-all-n (i ∷ is) g = drop-all-n is (dropTo 3 i g)
 
-pub drop-all-sound : (b : List ℕ) (g : Graph) → Sound g → Apart (g .n) b → Sound (dropAll b g)
+pub drop-all-shaped : (b : List ℕ) (g : Graph) → Shaped g → Apart (g .n) b → Shaped (dropAll b g)
 unfolding dropAll dropTo
-drop-all-sound [] g s a = s
-drop-all-sound (i ∷ is) g s a = drop-all-sound is (dropTo 3 i g) (sound-drop 3 i g s (apart-head a)) (apart-tail a)
+drop-all-shaped [] g s a = s
+drop-all-shaped (i ∷ is) g s a = drop-all-shaped is (dropTo 3 i g) (shaped-drop 3 i g s (apart-head a)) (apart-tail a)
 
 -- i has no weight and no edge
 pub record Gone (g : Graph) (i : ℕ) : Type 0 where
@@ -224,7 +224,7 @@ pub record Gone (g : Graph) (i : ℕ) : Type 0 where
   pub across : (j : ℕ) → j < g .n → edge g i j ≡ pos 0
   pub down : (j : ℕ) → j < g .n → edge g j i ≡ pos 0
 
-gone-here : (g : Graph) (i : ℕ) → Sound g → i < g .n → Gone (dropTo 3 i g) i
+gone-here : (g : Graph) (i : ℕ) → Shaped g → i < g .n → Gone (dropTo 3 i g) i
 unfolding dropTo
 gone-here g i s l =
     let few : g .n ≤ 64 = s .few in
@@ -234,7 +234,7 @@ gone-here g i s l =
       down = λ j m. clear-zero i (g .edges) j (omega arith) (omega arith) (s .edges-long) (g .n) few m .1;
     }
 
-gone-stays : (g : Graph) (i k : ℕ) → Sound g → i < g .n → k < g .n → k ≢ i → Gone g k → Gone (dropTo 3 i g) k
+gone-stays : (g : Graph) (i k : ℕ) → Shaped g → i < g .n → k < g .n → k ≢ i → Gone g k → Gone (dropTo 3 i g) k
 unfolding dropTo
 gone-stays g i k s li lk d h =
     let here : Gone (dropTo 3 i g) i = gone-here g i s li in
@@ -248,18 +248,18 @@ gone-stays g i k s li lk d h =
           (λ e. drop-edge g s i li j k m lk (eqb-false j i e) d ∙ h .down j m);
     }
 
-gone-after : (b : List ℕ) (g : Graph) (k : ℕ) → Sound g → Apart (g .n) b → k < g .n → mem k b ≡ false → Gone g k → Gone (dropAll b g) k
+gone-after : (b : List ℕ) (g : Graph) (k : ℕ) → Shaped g → Apart (g .n) b → k < g .n → mem k b ≡ false → Gone g k → Gone (dropAll b g) k
 unfolding dropAll dropTo
 gone-after [] g k s a lk m h = h
 gone-after (i ∷ is) g k s a lk m h =
     let p = out-cons k i is m in
-    gone-after is (dropTo 3 i g) k (sound-drop 3 i g s (apart-head a)) (apart-tail a) lk (p .1) (gone-stays g i k s (apart-head a) lk (p .0) h)
+    gone-after is (dropTo 3 i g) k (shaped-drop 3 i g s (apart-head a)) (apart-tail a) lk (p .1) (gone-stays g i k s (apart-head a) lk (p .0) h)
 
-pub drop-all-gone : (b : List ℕ) (g : Graph) (k : ℕ) → Sound g → Apart (g .n) b → mem k b ≡ true → Gone (dropAll b g) k
+pub drop-all-gone : (b : List ℕ) (g : Graph) (k : ℕ) → Shaped g → Apart (g .n) b → mem k b ≡ true → Gone (dropAll b g) k
 unfolding dropAll dropTo mem
 drop-all-gone [] g k s a m = clash m refl
 drop-all-gone (i ∷ is) g k s a m =
-    let s′ : Sound (dropTo 3 i g) = sound-drop 3 i g s (apart-head a) in
+    let s′ : Shaped (dropTo 3 i g) = shaped-drop 3 i g s (apart-head a) in
     in-cons k i is m
     (λ e. subst (λ (t : ℕ). Gone (dropAll is (dropTo 3 i g)) t) (sym e) (gone-after is (dropTo 3 i g) i s′ (apart-tail a) (apart-head a) (apart-new a) (gone-here g i s (apart-head a))))
     (λ r. drop-all-gone is (dropTo 3 i g) k s′ (apart-tail a) r)
@@ -320,13 +320,13 @@ pair-of (one l m (one l′ m′ (one l″ m″ a))) h = absurd (bad h)
     bad p = omega arith
 
 -- ---- the laws of a block: of any different decisions whose boundary has at most two
-module _ (g : Graph) (b : List ℕ) (s : Sound g) (a : Apart (g .n) b) (l : length (boundary g b) ≤ 2) where
+module _ (g : Graph) (b : List ℕ) (s : Shaped g) (a : Apart (g .n) b) (l : length (boundary g b) ≤ 2) where
   abbrev filling : (ℕ → Bool) → ℕ
   filling x = maskAt x (boundary g b)
 
   absorbed : (x : ℕ → Bool) → cost (eliminateBlock b g) x ≡ cost (dropAll b g) x +ℤ blockTable g b (maskAt x (boundary g b))
   unfolding eliminateBlock
-  absorbed x = absorb-cost (dropAll b g) x (blockTable g b) (boundary g b) (drop-all-sound b g s a)
+  absorbed x = absorb-cost (dropAll b g) x (blockTable g b) (boundary g b) (drop-all-shaped b g s a)
       (subst (λ (n : ℕ). Pair n (boundary g b)) (sym (drop-all-n b g)) (pair-of (boundary-apart g b) l))
 
   parted : (x : ℕ → Bool) → cost g x ≡ cost (dropAll b g) x +ℤ inner g (boundary g b) (maskAt x (boundary g b)) b (maskAt x b)

@@ -14,7 +14,7 @@ use Rattle.whole.specs.Words.{odd, bit, oneIf, mem, bitsFrom}
 use Rattle.rules.specs.Graph.{Graph}
 use Rattle.rules.specs.Eliminate.{Step}
 use Rattle.rules.specs.SmallBlock.{boundary, bestMask, blockSteps, eliminateBlock, findBlock, members}
-use Rattle.meaning.specs.CostLaws.{cost, Sound}
+use Rattle.meaning.specs.CostLaws.{cost, Shaped}
 use Rattle.meaning.specs.EliminateLaws.{maskAt, odd-of, half-of}
 use Rattle.whole.specs.Tests.{refuse, clash}
 use Rattle.whole.specs.Members.{in-head, in-tail, out-cons, out-of-cons}
@@ -84,7 +84,7 @@ module _ (g : Graph) (b : List ℕ) (x : ℕ → Bool) where
   steps-settle k = played-put 0 b (λ k m. m) k ∙ ap (λ (m : ℕ). put b m x k) (div-one best)
 
 -- the reduced cost of a plan is the old cost of the plan grown back through the block's steps
-pub block-grown-back : (g : Graph) (b : List ℕ) → Sound g → findBlock g ≡ members b → (x : ℕ → Bool)
+pub block-grown-back : (g : Graph) (b : List ℕ) → Shaped g → findBlock g ≡ members b → (x : ℕ → Bool)
     → cost (eliminateBlock b g) x ≡ cost g (played (blockSteps g b 0 b) x)
 unfolding mem
 block-grown-back g b s e x =

@@ -19,7 +19,7 @@ abbrev pub cost : Graph → (ℕ → Bool) → ℤ
 cost g x = costOf (g .n) (g .constant) (lin g) (edge g) x
 
 -- what every graph of a run is
-pub record Sound (g : Graph) : Type 0 where
+pub record Shaped (g : Graph) : Type 0 where
   pub few : g .n ≤ 64
   pub linear-long : length (g .linear) ≡ 64
   pub edges-long : length (g .edges) ≡ 4096
@@ -38,7 +38,7 @@ pub base-cost : (g : Graph) (x : ℕ → Bool) (v : ℤ) → cost (addConstant v
 unfolding addConstant
 base-cost g x v = cost-base (g .n) (g .constant) x (lin g) (edge g) v
 
-pub lin-cost : (g : Graph) (x : ℕ → Bool) (k : ℕ) (v : ℤ) → Sound g → k < g .n → cost (addLinear k v g) x ≡ cost g x +ℤ when (x k) v
+pub lin-cost : (g : Graph) (x : ℕ → Bool) (k : ℕ) (v : ℤ) → Shaped g → k < g .n → cost (addLinear k v g) x ≡ cost g x +ℤ when (x k) v
 unfolding addLinear
 lin-cost g x k v s l =
     let inside : k < length (g .linear) = omega (arith, s .few, s .linear-long) in
@@ -46,7 +46,7 @@ lin-cost g x k v s l =
     (λ i d. getD-set-other (g .linear) k i (lin g k +ℤ v) (pos 0) d)
     (getD-set-same (g .linear) k (lin g k +ℤ v) (pos 0) inside)
 
-module _ (g : Graph) (k l : ℕ) (v : ℤ) (s : Sound g) (lk : k < g .n) (ll : l < g .n) (kl : k ≢ l) where
+module _ (g : Graph) (k l : ℕ) (v : ℤ) (s : Shaped g) (lk : k < g .n) (ll : l < g .n) (kl : k ≢ l) where
   pub here : edge (addEdge k l v g) k l ≡ edge g k l +ℤ v
   unfolding addEdge
   here =
@@ -132,7 +132,7 @@ clear-zero i e q li lq le (suc c) lc h = go (ℕ-discrete q c) (λ t. clear-zero
               (omega (arith, clear-length i c e, length-set (clear i c e) (64 * i + c) (pos 0))),
         )
 
-pub drop-cost : (g : Graph) (x : ℕ → Bool) (t i : ℕ) → Sound g → i < g .n
+pub drop-cost : (g : Graph) (x : ℕ → Bool) (t i : ℕ) → Shaped g → i < g .n
     → cost g x ≡ cost (dropTo t i g) x +ℤ when (x i) (deltaOf (g .n) (lin g) (edge g) x i)
 unfolding dropTo
 drop-cost g x t i s l =

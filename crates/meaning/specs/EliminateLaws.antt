@@ -12,9 +12,9 @@ use lib.ListN.{length, getD, set, length-set}
 use lib.IntN.{ℤ, pos, negsuc, _+ℤ_, _-ℤ_, negℤ, +ℤ-assoc, +ℤ-idl, +ℤ-idr, +ℤ-comm}
 use Rattle.whole.specs.Words.{oneIf, odd, from, upto, those, chosen, isZeroZ, below0}
 use Rattle.rules.specs.Graph.{Graph, lin, edge, neighbours, row, addConstant, addLinear, addEdge, clear, dropTo}
-use Rattle.rules.specs.Eliminate.{absorb, delta, tee, eliminate}
+use Rattle.rules.specs.Eliminate.{absorb, delta}
 use Rattle.meaning.specs.Cost.{when, when-zero, sumTo, deltaOf}
-use Rattle.meaning.specs.CostLaws.{cost, Sound, drop-cost, clear-length, clear-zero, clear-other}
+use Rattle.meaning.specs.CostLaws.{cost, Shaped, drop-cost, clear-length, clear-zero, clear-other}
 use Rattle.meaning.specs.AbsorbLaws.{none-of, one-of, two-of}
 use Rattle.meaning.specs.Linear.{at, nil, _⊕_, _⊝_, solve}
 
@@ -95,9 +95,9 @@ delta-at g x i =
     ap (λ (z : ℤ). lin g i +ℤ z)
     (chosen-mask x (edge g i) (neighbours g i) ∙ over-nbrs g i (λ j. when (x j) (edge g i j)) (λ k e. ap (when (x k)) e ∙ when-zero (x k)))
 
-pub sound-drop : (t i : ℕ) (g : Graph) → Sound g → i < g .n → Sound (dropTo t i g)
+pub shaped-drop : (t i : ℕ) (g : Graph) → Shaped g → i < g .n → Shaped (dropTo t i g)
 unfolding dropTo
-sound-drop t i g s li = record {
+shaped-drop t i g s li = record {
   few = s .few;
   linear-long = length-set (g .linear) i (pos 0) ∙ s .linear-long;
   edges-long = clear-length i (g .n) (g .edges) ∙ s .edges-long;
@@ -132,7 +132,7 @@ pub data Pair (n : ℕ) : List ℕ → Type 0 where
   single : {j : ℕ} → j < n → Pair n (j ∷ [])
   double : {j k : ℕ} → j < n → k < n → j ≢ k → Pair n (j ∷ k ∷ [])
 
-pub absorb-cost : (g : Graph) (x : ℕ → Bool) (t : ℕ → ℤ) (ns : List ℕ) → Sound g → Pair (g .n) ns → cost (absorb t ns g) x ≡ cost g x +ℤ t (maskAt x ns)
+pub absorb-cost : (g : Graph) (x : ℕ → Bool) (t : ℕ → ℤ) (ns : List ℕ) → Shaped g → Pair (g .n) ns → cost (absorb t ns g) x ≡ cost g x +ℤ t (maskAt x ns)
 unfolding maskAt
 absorb-cost g x t [] s empty = none-of g x t
 absorb-cost g x t (j ∷ []) s (single lj) = one-of g x t j s lj ∙ ap (λ (m : ℕ). cost g x +ℤ t m) plain
@@ -143,16 +143,3 @@ absorb-cost g x t (j ∷ k ∷ []) s (double lj lk jk) = two-of g x t j k s lj l
   where
     plain : oneIf (x j) + 2 * oneIf (x k) ≡ oneIf (x j) + 2 * (oneIf (x k) + 2 * 0)
     plain = omega arith
-
--- the law of Eliminate: the reduced cost is the old one with T for what i costs
-pub eliminate-cost : (g : Graph) (x : ℕ → Bool) (i : ℕ) → Sound g → i < g .n → Pair (g .n) (neighbours g i)
-    → cost (eliminate i g) x +ℤ when (x i) (delta g i (maskAt x (neighbours g i))) ≡ cost g x +ℤ below0 (delta g i (maskAt x (neighbours g i)))
-unfolding eliminate dropTo
-eliminate-cost g x i s li p =
-    ap (λ (z : ℤ). z +ℤ when (x i) (delta g i (maskAt x (neighbours g i)))) (absorb-cost (dropTo 3 i g) x (tee g i) (neighbours g i) (sound-drop 3 i g s li) p)
-    ∙ turn (cost (dropTo 3 i g) x) (tee g i (maskAt x (neighbours g i))) (when (x i) (delta g i (maskAt x (neighbours g i))))
-    ∙ ap (λ (z : ℤ). z +ℤ tee g i (maskAt x (neighbours g i)))
-    (ap (λ (z : ℤ). cost (dropTo 3 i g) x +ℤ when (x i) z) (delta-at g x i) ∙ sym (drop-cost g x 3 i s li))
-  where
-    turn : (a b c : ℤ) → a +ℤ b +ℤ c ≡ a +ℤ c +ℤ b
-    turn a b c = solve (a ∷ b ∷ c ∷ []) (at 0 ⊕ at 1 ⊕ at 2) (at 0 ⊕ at 2 ⊕ at 1) tt

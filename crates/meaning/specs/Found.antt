@@ -12,7 +12,7 @@ use lib.Signed.{_≤ℤ_}
 use borrow.Author.Tests.{leb-true}
 use Rattle.whole.specs.Words.{isZeroZ, upto, mem, those, some}
 use Rattle.rules.specs.Graph.{Graph, edge, active, actives, neighbours}
-use Rattle.meaning.specs.CostLaws.{cost, Sound}
+use Rattle.meaning.specs.CostLaws.{cost, Shaped}
 use Rattle.rules.specs.SmallBlock.{component, isCut, Block, none, members, small, among, orElse, overCuts, overRemoved, search, findBlock, boundary, inner, blockTable, bestMask, eliminateBlock}
 use Rattle.meaning.specs.EliminateLaws.{maskAt}
 use Rattle.whole.specs.Pigeon.{Apart}
@@ -149,7 +149,7 @@ pub record SmallBlock (g : Graph) (b : List ℕ) : Type 0 where
   pub eight : length b ≤ 8
   pub narrow : length (boundary g b) ≤ 2
 
-module _ (g : Graph) (b : List ℕ) (s : Sound g) (e : findBlock g ≡ members b) where
+module _ (g : Graph) (b : List ℕ) (s : Shaped g) (e : findBlock g ≡ members b) where
   abbrev by : FoundBy g b
   by = found-by g b e
 

@@ -12,7 +12,7 @@ use lib.IntN.{ℤ, pos}
 use borrow.Author.Tests.{ne-eqb}
 use Rattle.whole.specs.Words.{isZeroZ, upto, mem, those, some}
 use Rattle.rules.specs.Graph.{Graph, edge, neighbours}
-use Rattle.meaning.specs.CostLaws.{Sound}
+use Rattle.meaning.specs.CostLaws.{Shaped}
 use Rattle.rules.specs.SmallBlock.{fresh, grow, component, besides, isCut}
 use Rattle.whole.specs.Pigeon.{Apart, none, one, pigeon}
 use Rattle.whole.specs.Tests.{or-none, or-left, or-right, cases, clash, refuse, not-off, not-on, on-not, off-not, same-test}
@@ -206,7 +206,7 @@ pub to-nbrs : (g : Graph) (i j : ℕ) → j < g .n → isZeroZ (edge g i j) ≡ 
 unfolding neighbours
 to-nbrs g i j l h = to-those (λ j. not (isZeroZ (edge g i j))) j (upto (g .n)) (in-upto j (g .n) l) (not-off h)
 
-pub network : (g : Graph) → Sound g → Network (g .n) (neighbours g)
+pub network : (g : Graph) → Shaped g → Network (g .n) (neighbours g)
 unfolding neighbours
 network g s = record {
   few = s .few;

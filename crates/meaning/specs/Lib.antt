@@ -5,6 +5,8 @@ pub mod AbsorbLaws
 pub mod EliminateLaws
 pub mod OrderZ
 pub mod ReduceLaws
+pub mod DegreeThreeLaws
+pub mod DominantLaws
 pub mod RunLaws
 pub mod OverLists
 pub mod Neat
@@ -12,3 +14,4 @@ pub mod Growth
 pub mod BlockCost
 pub mod Found
 pub mod BlockSteps
+pub mod Stands

@@ -15,14 +15,14 @@ use Rattle.whole.specs.Words.{isZeroZ, upto, mem, those, some}
 use Rattle.rules.specs.Graph.{Graph, lin, edge, active, neighbours, addConstant, addLinear, addEdge, clear, dropTo}
 use Rattle.rules.specs.Eliminate.{absorb}
 use Rattle.rules.specs.SmallBlock.{boundary, dropAll, eliminateBlock, blockTable, findBlock, members}
-use Rattle.meaning.specs.CostLaws.{Sound, clear-zero}
-use Rattle.meaning.specs.AbsorbLaws.{sound-base, sound-lin, sound-edge}
-use Rattle.meaning.specs.EliminateLaws.{sound-drop, Pair, empty, single, double}
+use Rattle.meaning.specs.CostLaws.{Shaped, clear-zero}
+use Rattle.meaning.specs.AbsorbLaws.{shaped-base, shaped-lin, shaped-edge}
+use Rattle.meaning.specs.EliminateLaws.{shaped-drop, Pair, empty, single, double}
 use Rattle.whole.specs.Pigeon.{Apart, none, one}
 use Rattle.whole.specs.Tests.{cases, clash, refuse, off-not, and-true}
 use Rattle.whole.specs.Members.{in-cons, in-head, in-tail, in-those, to-those, in-upto, upto-in, out-cons, apart-head, apart-tail, apart-below, apart-those, apart-upto}
 use Rattle.meaning.specs.Growth.{Network, in-nbrs, to-nbrs}
-use Rattle.meaning.specs.BlockCost.{boundary-apart, boundary-outside, pair-of, drop-all-n, drop-all-sound}
+use Rattle.meaning.specs.BlockCost.{boundary-apart, boundary-outside, pair-of, drop-all-n, drop-all-shaped}
 use Rattle.meaning.specs.Found.{Tidy, some-witness, SmallBlock, found-block}
 
 abbrev pub Live : Graph → ℕ → Type 0
@@ -31,7 +31,7 @@ Live g i = (i < g .n) × (active g i ≡ true)
 pub record Neat (g : Graph) : Type 0 where
   pub ends : (i j : ℕ) → i < 64 → j < 64 → isZeroZ (edge g i j) ≡ false → Live g i × Live g j
 
-pub neat-tidy : (g : Graph) → Sound g → Neat g → Tidy g
+pub neat-tidy : (g : Graph) → Shaped g → Neat g → Tidy g
 neat-tidy g s w i j li m =
     let few : g .n ≤ 64 = s .few in
     let p = in-nbrs g i j m in
@@ -41,7 +41,7 @@ wider : {m n : ℕ} {xs : List ℕ} → m ≤ n → Apart m xs → Apart n xs
 wider h none = none
 wider h (one {x = x} l d a) = one {x = x} (omega arith) d (wider h a)
 
-pub neat-network : (g : Graph) → Sound g → Neat g → Network 64 (neighbours g)
+pub neat-network : (g : Graph) → Shaped g → Neat g → Network 64 (neighbours g)
 unfolding neighbours
 neat-network g s w = record {
   few = omega arith;
@@ -65,7 +65,7 @@ pub neat-lin : (k : ℕ) (v : ℤ) (g : Graph) → Neat g → Neat (addLinear k 
 unfolding addLinear
 neat-lin k v g w = record { ends = w .ends }
 
-pub neat-edge : (k l : ℕ) (v : ℤ) (g : Graph) → Sound g → Neat g → Live g k → Live g l → Neat (addEdge k l v g)
+pub neat-edge : (k l : ℕ) (v : ℤ) (g : Graph) → Shaped g → Neat g → Live g k → Live g l → Neat (addEdge k l v g)
 unfolding addEdge
 neat-edge k l v g s w lk ll = record { ends = λ i j li lj e. go i j li lj e (ℕ-discrete (64 * i + j) (64 * l + k)) (ℕ-discrete (64 * i + j) (64 * k + l)) }
   where
@@ -105,7 +105,7 @@ live-drop : (t i k : ℕ) (g : Graph) → k ≢ i → Live g k → Live (dropTo 
 unfolding dropTo
 live-drop t i k g d l = (l .0, ap (λ (z : ℕ). eqb z 2) (getD-set-other (g .states) i k t 0 d) ∙ l .1)
 
-pub neat-drop : (t i : ℕ) (g : Graph) → Sound g → Neat g → i < g .n → Neat (dropTo t i g)
+pub neat-drop : (t i : ℕ) (g : Graph) → Shaped g → Neat g → i < g .n → Neat (dropTo t i g)
 unfolding dropTo
 neat-drop t i g s w li = record {
   ends = λ p q lp lq e.
@@ -121,29 +121,29 @@ neat-drop t i g s w li = record {
         clear-zero i (g .edges) q (omega (arith, li)) (omega (arith, lq)) (s .edges-long) (g .n) few lq
 
 -- ---- kept by a block's elimination
-pub neat-drop-all : (b : List ℕ) (g : Graph) → Sound g → Neat g → Apart (g .n) b → Neat (dropAll b g)
+pub neat-drop-all : (b : List ℕ) (g : Graph) → Shaped g → Neat g → Apart (g .n) b → Neat (dropAll b g)
 unfolding dropAll dropTo
 neat-drop-all [] g s w a = w
-neat-drop-all (i ∷ is) g s w a = neat-drop-all is (dropTo 3 i g) (sound-drop 3 i g s (apart-head a)) (neat-drop 3 i g s w (apart-head a)) (apart-tail a)
+neat-drop-all (i ∷ is) g s w a = neat-drop-all is (dropTo 3 i g) (shaped-drop 3 i g s (apart-head a)) (neat-drop 3 i g s w (apart-head a)) (apart-tail a)
 
 pub live-drop-all : (b : List ℕ) (g : Graph) (k : ℕ) → mem k b ≡ false → Live g k → Live (dropAll b g) k
 unfolding dropAll
 live-drop-all [] g k m l = l
 live-drop-all (i ∷ is) g k m l = let p = out-cons k i is m in live-drop-all is (dropTo 3 i g) k (p .1) (live-drop 3 i k g (p .0) l)
 
-pub absorb-keeps : (t : ℕ → ℤ) (ns : List ℕ) (g : Graph) → Sound g → Neat g → Pair (g .n) ns → ((k : ℕ) → mem k ns ≡ true → Live g k) → Sound (absorb t ns g) × Neat (absorb t ns g)
+pub absorb-keeps : (t : ℕ → ℤ) (ns : List ℕ) (g : Graph) → Shaped g → Neat g → Pair (g .n) ns → ((k : ℕ) → mem k ns ≡ true → Live g k) → Shaped (absorb t ns g) × Neat (absorb t ns g)
 unfolding absorb addConstant addLinear
-absorb-keeps t [] g s w empty h = (sound-base (t 0) g s, neat-base (t 0) g w)
+absorb-keeps t [] g s w empty h = (shaped-base (t 0) g s, neat-base (t 0) g w)
 absorb-keeps t (j ∷ []) g s w (single lj) h =
-    (sound-lin j (t 1 -ℤ t 0) (addConstant (t 0) g) (sound-base (t 0) g s), neat-lin j (t 1 -ℤ t 0) (addConstant (t 0) g) (neat-base (t 0) g w))
+    (shaped-lin j (t 1 -ℤ t 0) (addConstant (t 0) g) (shaped-base (t 0) g s), neat-lin j (t 1 -ℤ t 0) (addConstant (t 0) g) (neat-base (t 0) g w))
 absorb-keeps t (j ∷ k ∷ []) g s w (double lj lk d) h =
     let g₁ : Graph = addLinear k (t 2 -ℤ t 0) (addLinear j (t 1 -ℤ t 0) (addConstant (t 0) g)) in
-    let s₁ : Sound g₁ = sound-lin k (t 2 -ℤ t 0) (addLinear j (t 1 -ℤ t 0) (addConstant (t 0) g)) (sound-lin j (t 1 -ℤ t 0) (addConstant (t 0) g) (sound-base (t 0) g s)) in
+    let s₁ : Shaped g₁ = shaped-lin k (t 2 -ℤ t 0) (addLinear j (t 1 -ℤ t 0) (addConstant (t 0) g)) (shaped-lin j (t 1 -ℤ t 0) (addConstant (t 0) g) (shaped-base (t 0) g s)) in
     let w₁ : Neat g₁ = neat-lin k (t 2 -ℤ t 0) (addLinear j (t 1 -ℤ t 0) (addConstant (t 0) g)) (neat-lin j (t 1 -ℤ t 0) (addConstant (t 0) g) (neat-base (t 0) g w)) in
-    (sound-edge g₁ j k (t 3 -ℤ t 1 -ℤ t 2 +ℤ t 0) s₁ lj lk d, neat-edge j k (t 3 -ℤ t 1 -ℤ t 2 +ℤ t 0) g₁ s₁ w₁ (h j (in-head j (k ∷ []))) (h k (in-tail k j (k ∷ []) (in-head k []))))
+    (shaped-edge g₁ j k (t 3 -ℤ t 1 -ℤ t 2 +ℤ t 0) s₁ lj lk d, neat-edge j k (t 3 -ℤ t 1 -ℤ t 2 +ℤ t 0) g₁ s₁ w₁ (h j (in-head j (k ∷ []))) (h k (in-tail k j (k ∷ []) (in-head k []))))
 
 -- an outside neighbour is active
-boundary-live : (g : Graph) (b : List ℕ) → Sound g → Neat g → Apart (g .n) b → (k : ℕ) → mem k (boundary g b) ≡ true → Live g k
+pub boundary-live : (g : Graph) (b : List ℕ) → Shaped g → Neat g → Apart (g .n) b → (k : ℕ) → mem k (boundary g b) ≡ true → Live g k
 unfolding boundary
 boundary-live g b s w a k h =
     let p = in-those (λ j. not (mem j b) && some (λ i. not (isZeroZ (edge g i j))) b) k (upto (g .n)) h in
@@ -154,10 +154,10 @@ boundary-live g b s w a k h =
     low : (j : ℕ) → j < g .n → j < 64
     low j b = omega (arith, s .few)
 
-pub block-keeps : (g : Graph) (b : List ℕ) → Sound g → Neat g → findBlock g ≡ members b → Sound (eliminateBlock b g) × Neat (eliminateBlock b g)
+pub block-keeps : (g : Graph) (b : List ℕ) → Shaped g → Neat g → findBlock g ≡ members b → Shaped (eliminateBlock b g) × Neat (eliminateBlock b g)
 unfolding eliminateBlock
 block-keeps g b s w e =
     let f : SmallBlock g b = found-block g b s e in
-    absorb-keeps (blockTable g b) (boundary g b) (dropAll b g) (drop-all-sound b g s (f .apart)) (neat-drop-all b g s w (f .apart))
+    absorb-keeps (blockTable g b) (boundary g b) (dropAll b g) (drop-all-shaped b g s (f .apart)) (neat-drop-all b g s w (f .apart))
     (subst (λ (n : ℕ). Pair n (boundary g b)) (sym (drop-all-n b g)) (pair-of (boundary-apart g b) (f .narrow)))
     (λ k m. live-drop-all b g k (boundary-outside g b k m) (boundary-live g b s w (f .apart) k m))

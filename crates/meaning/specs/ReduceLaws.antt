@@ -14,16 +14,17 @@ use lib.ListN.{length, getD}
 use lib.IntN.{ℤ, pos, negsuc, _+ℤ_, _-ℤ_, negℤ, +ℤ-assoc, +ℤ-idl, +ℤ-idr}
 use lib.Signed.{ltZ, _≤ℤ_, ≤ℤ-refl, ltZ-no, leZ-yes}
 use Rattle.meaning.specs.OrderZ.{shift-≤}
+use Rattle.whole.specs.Ints.{ints, zarith}
 use Rattle.whole.specs.Words.{oneIf, from, upto, those, isZeroZ, below0}
 use Rattle.rules.specs.Graph.{Graph, lin, edge, neighbours, addConstant, addLinear, addEdge, dropTo}
 use Rattle.rules.specs.Fixing.{spread, fix}
 use Rattle.rules.specs.DegreeThree.{moebius, addPairs, absorb3, eliminate3}
-use Rattle.rules.specs.Eliminate.{delta, tee, eliminate}
+use Rattle.rules.specs.Eliminate.{delta, chooses, tee, eliminate}
 use Rattle.rules.specs.DominantEdge.{turn, move, contract}
 use Rattle.meaning.specs.Cost.{when, when-add, when-zero, when-swap, sumTo, sum-ext, sum-zero, sum-point, deltaOf}
-use Rattle.meaning.specs.CostLaws.{cost, Sound, base-cost, lin-cost, edge-cost, drop-cost}
-use Rattle.meaning.specs.AbsorbLaws.{sound-base, sound-lin, sound-edge, three-sum}
-use Rattle.meaning.specs.EliminateLaws.{maskAt, Pair, delta-at, sound-drop, eliminate-cost, over, over-nbrs}
+use Rattle.meaning.specs.CostLaws.{cost, Shaped, base-cost, lin-cost, edge-cost, drop-cost}
+use Rattle.meaning.specs.AbsorbLaws.{shaped-base, shaped-lin, shaped-edge, three-sum}
+use Rattle.meaning.specs.EliminateLaws.{maskAt, Pair, delta-at, shaped-drop, absorb-cost, over, over-nbrs}
 use Rattle.meaning.specs.Linear.{at, nil, _⊕_, _⊝_, solve}
 
 -- the law: i is reduced, by the choice c
@@ -41,7 +42,7 @@ same-cost {i} {c} {g} {g′} r x e =
     (r .costs x ∙ ap (λ (b : Bool). cost g x +ℤ when b (deltaOf (g .n) (lin g) (edge g) x i)) (sym e))
 
 -- ---- degree three
-pub absorb3-cost : (g : Graph) (x : ℕ → Bool) (e : ℕ → ℤ) (j k l : ℕ) → Sound g → j < g .n → k < g .n → l < g .n → j ≢ k → j ≢ l → k ≢ l
+pub absorb3-cost : (g : Graph) (x : ℕ → Bool) (e : ℕ → ℤ) (j k l : ℕ) → Shaped g → j < g .n → k < g .n → l < g .n → j ≢ k → j ≢ l → k ≢ l
     → cost (absorb3 e (j ∷ k ∷ l ∷ []) g) x
     ≡ cost g x +ℤ e 0 +ℤ when (x j) (e 1) +ℤ when (x k) (e 2) +ℤ when (x l) (e 4)
     +ℤ when (x j) (when (x k) (e 3)) +ℤ when (x j) (when (x l) (e 5)) +ℤ when (x k) (when (x l) (e 6))
@@ -53,12 +54,12 @@ absorb3-cost g x e j k l s lj lk ll jk jl kl =
     let g₄ : Graph = addLinear l (e 4) g₃ in
     let g₅ : Graph = addEdge j k (e 3) g₄ in
     let g₆ : Graph = addEdge j l (e 5) g₅ in
-    let s₁ : Sound g₁ = sound-base (e 0) g s in
-    let s₂ : Sound g₂ = sound-lin j (e 1) g₁ s₁ in
-    let s₃ : Sound g₃ = sound-lin k (e 2) g₂ s₂ in
-    let s₄ : Sound g₄ = sound-lin l (e 4) g₃ s₃ in
-    let s₅ : Sound g₅ = sound-edge g₄ j k (e 3) s₄ lj lk jk in
-    let s₆ : Sound g₆ = sound-edge g₅ j l (e 5) s₅ lj ll jl in
+    let s₁ : Shaped g₁ = shaped-base (e 0) g s in
+    let s₂ : Shaped g₂ = shaped-lin j (e 1) g₁ s₁ in
+    let s₃ : Shaped g₃ = shaped-lin k (e 2) g₂ s₂ in
+    let s₄ : Shaped g₄ = shaped-lin l (e 4) g₃ s₃ in
+    let s₅ : Shaped g₅ = shaped-edge g₄ j k (e 3) s₄ lj lk jk in
+    let s₆ : Shaped g₆ = shaped-edge g₅ j l (e 5) s₅ lj ll jl in
     edge-cost g₆ k l (e 6) s₆ lk ll kl x
     ∙ ap (λ (z : ℤ). z +ℤ when (x k) (when (x l) (e 6))) (edge-cost g₅ j l (e 5) s₅ lj ll jl x
     ∙ ap (λ (z : ℤ). z +ℤ when (x j) (when (x l) (e 5))) (edge-cost g₄ j k (e 3) s₄ lj lk jk x
@@ -68,7 +69,7 @@ absorb3-cost g x e j k l s lj lk ll jk jl kl =
     ∙ ap (λ (z : ℤ). z +ℤ when (x j) (e 1)) (base-cost g x (e 0)))))))
 
 -- with entry 7 zero, the table itself is added
-pub absorb3-table : (g : Graph) (x : ℕ → Bool) (t : ℕ → ℤ) (j k l : ℕ) → Sound g → j < g .n → k < g .n → l < g .n → j ≢ k → j ≢ l → k ≢ l → moebius t 7 ≡ pos 0
+pub absorb3-table : (g : Graph) (x : ℕ → Bool) (t : ℕ → ℤ) (j k l : ℕ) → Shaped g → j < g .n → k < g .n → l < g .n → j ≢ k → j ≢ l → k ≢ l → moebius t 7 ≡ pos 0
     → cost (absorb3 (moebius t) (j ∷ k ∷ l ∷ []) g) x ≡ cost g x +ℤ t (oneIf (x j) + 2 * oneIf (x k) + 4 * oneIf (x l))
 absorb3-table g x t j k l s lj lk ll jk jl kl h =
     absorb3-cost g x (moebius t) j k l s lj lk ll jk jl kl
@@ -76,14 +77,30 @@ absorb3-table g x t j k l s lj lk ll jk jl kl h =
     (at 0 ⊕ at 1 ⊕ at 2 ⊕ at 3 ⊕ at 4 ⊕ at 5 ⊕ at 6 ⊕ at 7) (at 0 ⊕ (at 1 ⊕ at 2 ⊕ at 3 ⊕ at 4 ⊕ at 5 ⊕ at 6 ⊕ at 7)) tt
     ∙ ap (λ (z : ℤ). cost g x +ℤ z) (three-sum t h (x j) (x k) (x l))
 
--- ---- Eliminate is such a reduction: its choice is 1 where delta is below 0
-pub eliminate-reduces : (g : Graph) (i : ℕ) → Sound g → i < g .n → Pair (g .n) (neighbours g i)
-    → ReducedBy i (λ x. ltZ (delta g i (maskAt x (neighbours g i))) (pos 0)) g (eliminate i g)
-eliminate-reduces g i s li p = record {
-  costs = λ x.
-      ap (λ (z : ℤ). cost (eliminate i g) x +ℤ when (x i) z) (sym (delta-at g x i)) ∙ eliminate-cost g x i s li p
-      ∙ ap (λ (z : ℤ). cost g x +ℤ when (ltZ (delta g i (maskAt x (neighbours g i))) (pos 0)) z) (delta-at g x i);
-}
+-- ---- Eliminate, of any degree: once its table T is absorbed, i is reduced by the choice that is 1 where delta is below 0
+abbrev pub choiceAt : Graph → ℕ → (ℕ → Bool) → Bool
+choiceAt g i x = chooses g i (maskAt x (neighbours g i))
+
+abbrev pub Absorbed : ℕ → Graph → Graph → Type 0
+Absorbed i g g′ = (x : ℕ → Bool) → cost g′ x ≡ cost (dropTo 3 i g) x +ℤ tee g i (maskAt x (neighbours g i))
+
+pub absorbed-reduces : (g g′ : Graph) (i : ℕ) → Shaped g → i < g .n → Absorbed i g g′ → ReducedBy i (choiceAt g i) g g′
+absorbed-reduces g g′ i s li h = record { costs = λ x. all x }
+  where
+    turned : (a b c : ℤ) → a +ℤ b +ℤ c ≡ a +ℤ c +ℤ b
+    turned a b c = simp ints (omega zarith)
+
+    all : (x : ℕ → Bool)
+        → cost g′ x +ℤ when (x i) (deltaOf (g .n) (lin g) (edge g) x i) ≡ cost g x +ℤ when (choiceAt g i x) (deltaOf (g .n) (lin g) (edge g) x i)
+    all x =
+        let own : ℤ = when (x i) (deltaOf (g .n) (lin g) (edge g) x i) in
+        let t : ℤ = tee g i (maskAt x (neighbours g i)) in
+        ap (λ (z : ℤ). z +ℤ own) (h x) ∙ turned (cost (dropTo 3 i g) x) t own
+        ∙ ap₂ (λ (u v : ℤ). u +ℤ when (choiceAt g i x) v) (sym (drop-cost g x 3 i s li)) (delta-at g x i)
+
+pub eliminate-absorbed : (g : Graph) (i : ℕ) → Shaped g → i < g .n → Pair (g .n) (neighbours g i) → Absorbed i g (eliminate i g)
+unfolding eliminate dropTo
+eliminate-absorbed g i s li p x = absorb-cost (dropTo 3 i g) x (tee g i) (neighbours g i) (shaped-drop 3 i g s li) p
 
 -- ---- contract
 -- every decision of a list is below n
@@ -116,13 +133,13 @@ but j v k = cond (eqb k j) (pos 0) v
 apart : (k j : ℕ) → eqb k j ≡ false → j ≢ k
 apart k j h e = subst (λ (b : Bool). T b) h (subst (λ (m : ℕ). T (eqb m j)) e (eqb-refl j))
 
-move-cost : (old : Graph) (i j : ℕ) (x : ℕ → Bool) (ks : List ℕ) (g : Graph) → Sound g → j < g .n → Below (g .n) ks
+move-cost : (old : Graph) (i j : ℕ) (x : ℕ → Bool) (ks : List ℕ) (g : Graph) → Shaped g → j < g .n → Below (g .n) ks
     → cost (move old i j ks g) x ≡ cost g x +ℤ over (λ k. but j (when (x j) (when (x k) (edge old i k))) k) ks
 unfolding move over addEdge
 move-cost old i j x [] g s lj done = sym (+ℤ-idr (cost g x))
 move-cost old i j x (k ∷ ks) g s lj (more lk b) =
     go (eqb k j) refl (move-cost old i j x ks g s lj b)
-    (λ d. move-cost old i j x ks (addEdge j k (edge old i k) g) (sound-edge g j k (edge old i k) s lj lk d) lj b)
+    (λ d. move-cost old i j x ks (addEdge j k (edge old i k) g) (shaped-edge g j k (edge old i k) s lj lk d) lj b)
   where
     rest : ℤ
     rest = over (λ k. but j (when (x j) (when (x k) (edge old i k))) k) ks
@@ -173,15 +190,15 @@ moved-sum g i j x =
     pull false = sum-zero (λ k. but j (pos 0) k) (g .n) (λ k l. nought (eqb k j))
 
 -- w not positive: x of i becomes x of j
-pub move-reduces : (g : Graph) (i j : ℕ) → Sound g → i < g .n → j < g .n → ltZ (pos 0) (edge g i j) ≡ false → ReducedBy i (λ x. x j) g (contract i j g)
+pub move-reduces : (g : Graph) (i j : ℕ) → Shaped g → i < g .n → j < g .n → ltZ (pos 0) (edge g i j) ≡ false → ReducedBy i (λ x. x j) g (contract i j g)
 unfolding contract dropTo addLinear
 move-reduces g i j s li lj h = record { costs = λ x. all x }
   where
     d : Graph
     d = dropTo 3 i g
 
-    sd : Sound d
-    sd = sound-drop 3 i g s li
+    sd : Shaped d
+    sd = shaped-drop 3 i g s li
 
     e : Graph
     e = addLinear j (lin g i +ℤ edge g i j) d
@@ -193,7 +210,7 @@ move-reduces g i j s li lj h = record { costs = λ x. all x }
     all x =
         ap (λ (f : Graph). cost f x +ℤ own) which
         ∙ ap (λ (z : ℤ). z +ℤ own)
-        (move-cost g i j x (neighbours g i) e (sound-lin j (lin g i +ℤ edge g i j) d sd) lj (below-nbrs g i)
+        (move-cost g i j x (neighbours g i) e (shaped-lin j (lin g i +ℤ edge g i j) d sd) lj (below-nbrs g i)
         ∙ ap₂ (λ (u v : ℤ). u +ℤ v) (lin-cost d x j (lin g i +ℤ edge g i j) sd lj) (moved-sum g i j x))
         ∙ sort (cost d x) (when (x j) (lin g i +ℤ edge g i j)) (when (x j) (offSum g i j x)) own
         ∙ ap₂ (λ (u v : ℤ). u +ℤ v) (sym (drop-cost g x 3 i s li)) (sums (x j) refl)
@@ -214,14 +231,14 @@ move-reduces g i j s li lj h = record { costs = λ x. all x }
 abbrev turned : (ℕ → Bool) → Bool → ℤ → ℕ → ℤ
 turned x b w k = when (x k) w +ℤ when b (when (x k) (negℤ w))
 
-turn-cost : (old : Graph) (i j : ℕ) (x : ℕ → Bool) (ks : List ℕ) (g : Graph) → Sound g → j < g .n → Below (g .n) ks
+turn-cost : (old : Graph) (i j : ℕ) (x : ℕ → Bool) (ks : List ℕ) (g : Graph) → Shaped g → j < g .n → Below (g .n) ks
     → cost (turn old i j ks g) x ≡ cost g x +ℤ over (λ k. but j (turned x (x j) (edge old i k) k) k) ks
 unfolding turn over addEdge addLinear
 turn-cost old i j x [] g s lj done = sym (+ℤ-idr (cost g x))
 turn-cost old i j x (k ∷ ks) g s lj (more lk b) =
     go (eqb k j) refl (turn-cost old i j x ks g s lj b)
     (λ d. turn-cost old i j x ks (addEdge j k (negℤ (edge old i k)) (addLinear k (edge old i k) g))
-    (sound-edge (addLinear k (edge old i k) g) j k (negℤ (edge old i k)) (sound-lin k (edge old i k) g s) lj lk d) lj b)
+    (shaped-edge (addLinear k (edge old i k) g) j k (negℤ (edge old i k)) (shaped-lin k (edge old i k) g s) lj lk d) lj b)
   where
     rest : ℤ
     rest = over (λ k. but j (turned x (x j) (edge old i k) k) k) ks
@@ -236,7 +253,7 @@ turn-cost old i j x (k ∷ ks) g s lj (more lk b) =
     go false h r f =
         f (apart k j h)
         ∙ ap (λ (z : ℤ). z +ℤ rest)
-        (edge-cost (addLinear k (edge old i k) g) j k (negℤ (edge old i k)) (sound-lin k (edge old i k) g s) lj lk (apart k j h) x
+        (edge-cost (addLinear k (edge old i k) g) j k (negℤ (edge old i k)) (shaped-lin k (edge old i k) g s) lj lk (apart k j h) x
         ∙ ap (λ (z : ℤ). z +ℤ when (x j) (when (x k) (negℤ (edge old i k)))) (lin-cost g x k (edge old i k) s lk))
         ∙ sort (cost g x) (when (x k) (edge old i k)) (when (x j) (when (x k) (negℤ (edge old i k)))) rest
       where
@@ -267,21 +284,21 @@ turned-sum g i j x = over-nbrs g i (λ k. but j (turned x (x j) (edge g i k) k) 
     pull true = sum-zero (λ k. but j (turned x true (edge g i k) k) k) (g .n) (λ k l. undone (eqb k j) (x k) (edge g i k))
     pull false = sum-ext (λ k. but j (when (x k) (edge g i k)) k) (λ k. but j (turned x false (edge g i k) k) k) (g .n) (λ k l. plain (eqb k j) (x k) (edge g i k))
 
-pub turn-reduces : (g : Graph) (i j : ℕ) → Sound g → i < g .n → j < g .n → ltZ (pos 0) (edge g i j) ≡ true → ReducedBy i (λ x. not (x j)) g (contract i j g)
+pub turn-reduces : (g : Graph) (i j : ℕ) → Shaped g → i < g .n → j < g .n → ltZ (pos 0) (edge g i j) ≡ true → ReducedBy i (λ x. not (x j)) g (contract i j g)
 unfolding contract dropTo addLinear addConstant
 turn-reduces g i j s li lj h = record { costs = λ x. all x }
   where
     d : Graph
     d = dropTo 3 i g
 
-    sd : Sound d
-    sd = sound-drop 3 i g s li
+    sd : Shaped d
+    sd = shaped-drop 3 i g s li
 
     b : Graph
     b = addConstant (lin g i) d
 
-    sb : Sound b
-    sb = sound-base (lin g i) d sd
+    sb : Shaped b
+    sb = shaped-base (lin g i) d sd
 
     e : Graph
     e = addLinear j (negℤ (lin g i)) b
@@ -293,7 +310,7 @@ turn-reduces g i j s li lj h = record { costs = λ x. all x }
     all x =
         ap (λ (f : Graph). cost f x +ℤ own) which
         ∙ ap (λ (z : ℤ). z +ℤ own)
-        (turn-cost g i j x (neighbours g i) e (sound-lin j (negℤ (lin g i)) b sb) lj (below-nbrs g i)
+        (turn-cost g i j x (neighbours g i) e (shaped-lin j (negℤ (lin g i)) b sb) lj (below-nbrs g i)
         ∙ ap₂ (λ (u v : ℤ). u +ℤ v)
         (lin-cost b x j (negℤ (lin g i)) sb lj ∙ ap (λ (z : ℤ). z +ℤ when (x j) (negℤ (lin g i))) (base-cost d x (lin g i))) (turned-sum g i j x))
         ∙ sort (cost d x) (lin g i) (when (x j) (negℤ (lin g i))) (when (not (x j)) (offSum g i j x)) own
@@ -333,27 +350,27 @@ best z false = go (ltZ z (pos 0)) refl
         low (negsuc n) t = leZ-yes tt
     go false e = ≤ℤ-refl (pos 0)
 
-pub eliminate-never-more : (g : Graph) (i : ℕ) → Sound g → i < g .n → Pair (g .n) (neighbours g i) → (x : ℕ → Bool) → cost (eliminate i g) x ≤ℤ cost g x
-eliminate-never-more g i s li p x =
-    never-more (eliminate-reduces g i s li p) x
+pub absorbed-never-more : (g g′ : Graph) (i : ℕ) → Shaped g → i < g .n → Absorbed i g g′ → (x : ℕ → Bool) → cost g′ x ≤ℤ cost g x
+absorbed-never-more g g′ i s li h x =
+    never-more (absorbed-reduces g g′ i s li h) x
     (subst (λ (z : ℤ). when (ltZ z (pos 0)) (deltaOf (g .n) (lin g) (edge g) x i) ≤ℤ when (x i) (deltaOf (g .n) (lin g) (edge g) x i)) (sym (delta-at g x i))
     (best (deltaOf (g .n) (lin g) (edge g) x i) (x i)))
 
 -- ---- fixing is a reduction whose choice is the value
-spread-cost : (old : Graph) (i : ℕ) (x : ℕ → Bool) (ks : List ℕ) (g : Graph) → Sound g → Below (g .n) ks
+spread-cost : (old : Graph) (i : ℕ) (x : ℕ → Bool) (ks : List ℕ) (g : Graph) → Shaped g → Below (g .n) ks
     → cost (spread old i ks g) x ≡ cost g x +ℤ over (λ k. when (x k) (edge old i k)) ks
 unfolding spread over addLinear
 spread-cost old i x [] g s done = sym (+ℤ-idr (cost g x))
 spread-cost old i x (k ∷ ks) g s (more lk b) =
-    spread-cost old i x ks (addLinear k (edge old i k) g) (sound-lin k (edge old i k) g s) b
+    spread-cost old i x ks (addLinear k (edge old i k) g) (shaped-lin k (edge old i k) g s) b
     ∙ ap (λ (z : ℤ). z +ℤ over (λ k. when (x k) (edge old i k)) ks) (lin-cost g x k (edge old i k) s lk)
     ∙ +ℤ-assoc (cost g x) (when (x k) (edge old i k)) (over (λ k. when (x k) (edge old i k)) ks)
 
-pub fix-0-reduces : (g : Graph) (i : ℕ) → Sound g → i < g .n → ReducedBy i (λ x. false) g (fix i 0 g)
+pub fix-0-reduces : (g : Graph) (i : ℕ) → Shaped g → i < g .n → ReducedBy i (λ x. false) g (fix i 0 g)
 unfolding fix
 fix-0-reduces g i s li = record { costs = λ x. sym (drop-cost g x 0 i s li) ∙ sym (+ℤ-idr (cost g x)) }
 
-pub fix-1-reduces : (g : Graph) (i : ℕ) → Sound g → i < g .n → ReducedBy i (λ x. true) g (fix i 1 g)
+pub fix-1-reduces : (g : Graph) (i : ℕ) → Shaped g → i < g .n → ReducedBy i (λ x. true) g (fix i 1 g)
 unfolding fix dropTo addConstant
 fix-1-reduces g i s li = record { costs = λ x. all x }
   where
@@ -363,7 +380,7 @@ fix-1-reduces g i s li = record { costs = λ x. all x }
     all : (x : ℕ → Bool) → cost (fix i 1 g) x +ℤ when (x i) (deltaOf (g .n) (lin g) (edge g) x i) ≡ cost g x +ℤ deltaOf (g .n) (lin g) (edge g) x i
     all x =
         ap (λ (z : ℤ). z +ℤ when (x i) (deltaOf (g .n) (lin g) (edge g) x i))
-        (spread-cost g i x (neighbours g i) (addConstant (lin g i) d) (sound-base (lin g i) d (sound-drop 1 i g s li)) (below-nbrs g i)
+        (spread-cost g i x (neighbours g i) (addConstant (lin g i) d) (shaped-base (lin g i) d (shaped-drop 1 i g s li)) (below-nbrs g i)
         ∙ ap₂ (λ (u v : ℤ). u +ℤ v) (base-cost d x (lin g i))
         (over-nbrs g i (λ k. when (x k) (edge g i k)) (λ k e. ap (when (x k)) e ∙ when-zero (x k))))
         ∙ sort (cost d x) (lin g i) (sumTo (λ k. when (x k) (edge g i k)) (g .n)) (when (x i) (deltaOf (g .n) (lin g) (edge g) x i))

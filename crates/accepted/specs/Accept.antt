@@ -1,0 +1,118 @@
+-- What is known of an objective that is not refused.
+-- Assumes nothing.
+use mathlib.Core.Path.{_≡_, refl, sym, ap, _∙_}
+use mathlib.Core.Bool.{Bool, true, false, cond, not, _&&_, _||_}
+use mathlib.Core.List.{List, [], _∷_, _++_}
+use Prim.Native.Nat.{ℕ, zero, suc, _+_, _<_, _≤_}
+use native.Mathlib.Omega.{arith}
+use lib.Dec.{ltb, leb, eqb}
+use lib.ListN.{length, getD}
+use lib.IntN.{ℤ, pos}
+use borrow.Author.Tests.{ltb-false, leb-false, eqb-true}
+use Rattle.whole.specs.Words.{some, oneOf}
+use Rattle.rules.specs.Objective.{Objective, objective, weightOf}
+use Rattle.rules.specs.Refuse.{firstRow, badLengths, badIndex, badFixing, tooHeavy, reduceRefusal}
+
+-- of the objective alone
+pub record Fit (o : Objective) : Type 0 where
+  pub small : o .n ≤ 64
+  pub weights : length (o .weights) ≡ o .n
+  pub fixings : length (o .fixings) ≡ o .n
+  pub seconds : length (o .seconds) ≡ length (o .firsts)
+  pub termWeights : length (o .termWeights) ≡ length (o .firsts)
+  pub few : length (o .firsts) ≤ 4096
+  pub firstBelow : (k : ℕ) → k < length (o .firsts) → getD (o .firsts) k 0 < o .n
+  pub secondBelow : (k : ℕ) → k < length (o .seconds) → getD (o .seconds) k 0 < o .n
+  pub bytes : (k : ℕ) → k < length (o .fixings) → getD (o .fixings) k 0 ≤ 2
+  pub light : weightOf (o .weights) + weightOf (o .termWeights) ≤ 1099511627776
+
+pub record Accepted (o : Objective) (l e : ℕ) : Type 0 where
+  pub fit : Fit o
+  pub outLinear : l ≡ 64
+  pub outEdges : e ≡ 4096
+  pub switches : o .switches ≤ 15
+
+-- it does not look at the switches and the budget
+pub fit-any : (o : Objective) (sw b : ℕ) → Fit o → Fit (objective (o .n) (o .weights) (o .firsts) (o .seconds) (o .termWeights) (o .fixings) sw b)
+fit-any o sw b f = record {
+  small = f .small;
+  weights = f .weights;
+  fixings = f .fixings;
+  seconds = f .seconds;
+  termWeights = f .termWeights;
+  few = f .few;
+  firstBelow = f .firstBelow;
+  secondBelow = f .secondBelow;
+  bytes = f .bytes;
+  light = f .light;
+}
+
+-- no row holds: each test, as a tuple
+abbrev NoRow : List (ℕ × Bool) → Type 0
+NoRow [] = Unit
+NoRow (r ∷ rs) = (r .1 ≡ false) × NoRow rs
+
+-- no row has the number 0
+abbrev Numbered : List (ℕ × Bool) → Type 0
+Numbered [] = Unit
+Numbered (r ∷ rs) = (r .0 ≡ 0 → ⊥) × Numbered rs
+
+row : (k : ℕ) (t : Bool) (r : ℕ) → (k ≡ 0 → ⊥) → cond t k r ≡ 0 → (t ≡ false) × (r ≡ 0)
+row k true r n e = absurd (n e)
+row k false r n e = (refl, e)
+
+rows : (rs : List (ℕ × Bool)) → Numbered rs → firstRow rs ≡ 0 → NoRow rs
+unfolding firstRow
+rows [] n e = tt
+rows (r ∷ rs) n e = let h = row (r .0) (r .1) (firstRow rs) (n .0) e in (h .0, rows rs (n .1) (h .1))
+
+neither : (s t : Bool) → (s || t) ≡ false → (s ≡ false) × (t ≡ false)
+neither true t e = let y : _≡_ {A = ℕ} 0 1 = cc in absurd (omega arith)
+neither false t e = (refl, e)
+
+abbrev NoTest : List Bool → Type 0
+NoTest [] = Unit
+NoTest (t ∷ ts) = (t ≡ false) × NoTest ts
+
+tests : (ts : List Bool) → oneOf ts ≡ false → NoTest ts
+unfolding oneOf
+tests [] e = tt
+tests (t ∷ ts) e = (neither t (oneOf ts) e .0, tests ts (neither t (oneOf ts) e .1))
+
+long : (m k : ℕ) → not (eqb m k) ≡ false → m ≡ k
+long m k e = by (eqb m k) refl e
+  where
+    by : (t : Bool) → eqb m k ≡ t → not t ≡ false → m ≡ k
+    by true h e = eqb-true m k h
+    by false h e = let y : _≡_ {A = ℕ} 0 1 = cc in absurd (omega arith)
+
+-- no element passes
+none : (p : ℕ → Bool) (l : List ℕ) → some p l ≡ false → (k : ℕ) → k < length l → p (getD l k 0) ≡ false
+unfolding some
+none p [] e k h = absurd (omega arith)
+none p (x ∷ l) e zero h = neither (p x) (some p l) e .0
+none p (x ∷ l) e (suc k) h = none p l (neither (p x) (some p l) e .1) k (omega arith)
+
+pub accept : (o : Objective) (l e : ℕ) → reduceRefusal o l e ≡ 0 → Accepted o l e
+unfolding reduceRefusal badLengths badIndex badFixing tooHeavy
+accept o l e h =
+    let r = rows _ ((λ z. omega arith), ((λ z. omega arith), ((λ z. omega arith), ((λ z. omega arith), ((λ z. omega arith), ((λ z. omega arith), tt)))))) h in
+    let t = tests _ (r .1 .0) in
+    let i = tests _ (r .1 .1 .0) in
+    record {
+      fit = record {
+        small = ltb-false 64 (o .n) (r .0);
+        weights = long (length (o .weights)) (o .n) (t .0);
+        fixings = long (length (o .fixings)) (o .n) (t .1 .0);
+        seconds = long (length (o .seconds)) (length (o .firsts)) (t .1 .1 .0);
+        termWeights = long (length (o .termWeights)) (length (o .firsts)) (t .1 .1 .1 .0);
+        few = ltb-false 4096 (length (o .firsts)) (t .1 .1 .1 .1 .0);
+        firstBelow = λ k s. leb-false (o .n) (getD (o .firsts) k 0) (none (leb (o .n)) (o .firsts) (i .0) k s);
+        secondBelow = λ k s. leb-false (o .n) (getD (o .seconds) k 0) (none (leb (o .n)) (o .seconds) (i .1 .0) k s);
+        bytes = λ k s. ltb-false 2 (getD (o .fixings) k 0) (none (ltb 2) (o .fixings) (r .1 .1 .1 .0) k s);
+        light = ltb-false 1099511627776 (weightOf (o .weights) + weightOf (o .termWeights)) (r .1 .1 .1 .1 .1 .0);
+      };
+      outLinear = long l 64 (t .1 .1 .1 .1 .1 .0);
+      outEdges = long e 4096 (t .1 .1 .1 .1 .1 .1 .0);
+      switches = ltb-false 15 (o .switches) (r .1 .1 .1 .1 .0);
+    }

@@ -1,0 +1,1 @@
+// What an accepted objective gives: laws alone, in specs/.

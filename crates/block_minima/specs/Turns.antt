@@ -1,0 +1,71 @@
+-- One turn of each loop.
+-- Assumes nothing.
+use mathlib.Core.Path.{_≡_, sym, ap, _∙_}
+use mathlib.Core.Bool.{Bool, cond}
+use mathlib.Core.List.{List, [], _∷_, map}
+use Prim.Native.Nat.{ℕ, suc, _+_, _*_, _-_, _/_, _%_, _^_, _<_, _≤_}
+use native.Mathlib.Omega.{arith}
+use native.Mathlib.Numerals.{add-one}
+use native.Mathlib.Nat.{mod-eq-of-lt, one-mul}
+use lib.Pow.{pow-lt}
+use lib.ListN.{length, getD, take, drop}
+use lib.Seq.{drop-cons, length-take-le, getD-take}
+use lib.IntN.{ℤ, pos, _+ℤ_, +ℤ-assoc}
+use lib.Signed.{ltZ}
+use Rattle.whole.specs.Words.{odd, chosen}
+use Rattle.rules.specs.Graph.{Graph, lin, row}
+use Rattle.rules.specs.SmallBlock.{inner, cheapest}
+use Rattle.block_minima.specs.Weights.{Listed}
+
+module _ (list : List ℕ) (count : ℕ) (w : Listed list count) where
+  pub listed-length : length (take count list) ≡ count
+  listed-length = length-take-le count list (omega (arith, w .few, w .long))
+
+  pub next-of : (q : ℕ) → q < count → drop q (take count list) ≡ getD list q 0 ∷ drop (q + 1) (take count list)
+  next-of q l = rw add-one (drop-cons (take count list) q 0 (omega (arith, listed-length)) ∙ ap (λ (x : ℕ). x ∷ drop (suc q) (take count list)) (getD-take count list q 0 l))
+
+  pub none-left : (q : ℕ) → q ≡ count → drop q (take count list) ≡ []
+  none-left q e = let l : length (take count list) ≤ q = omega (arith, listed-length) in lib.ListN.drop-of-length-le (take count list) l
+
+  pub chosen-turn : (E : ℕ → ℤ) (q rest : ℕ) (s t : ℤ) → q < count → s +ℤ chosen (map E (drop q (take count list))) rest ≡ t
+      → (s +ℤ cond (odd rest) (E (getD list q 0)) (pos 0)) +ℤ chosen (map E (drop (q + 1) (take count list))) (rest / 2) ≡ t
+  unfolding chosen
+  chosen-turn E q rest s t l h =
+      +ℤ-assoc s (cond (odd rest) (E (getD list q 0)) (pos 0)) (chosen (map E (drop (q + 1) (take count list))) (rest / 2))
+      ∙ sym (ap (λ (xs : List ℕ). s +ℤ chosen (map E xs) rest) (next-of q l)) ∙ h
+
+  pub chosen-end : (E : ℕ → ℤ) (q rest : ℕ) (s t : ℤ) → q ≡ count → s +ℤ chosen (map E (drop q (take count list))) rest ≡ t → s ≡ t
+  unfolding chosen
+  chosen-end E q rest s t e h = sym (lib.IntN.+ℤ-idr s) ∙ sym (ap (λ (xs : List ℕ). s +ℤ chosen (map E xs) rest) (none-left q e)) ∙ h
+
+  pub inner-turn : (g : Graph) (out : List ℕ) (f p rest : ℕ) (s t : ℤ) → p < count → s +ℤ inner g out f (drop p (take count list)) rest ≡ t
+      → (s +ℤ cond (odd rest) (lin g (getD list p 0) +ℤ chosen (row g (getD list p 0) out) f +ℤ chosen (row g (getD list p 0) (drop (p + 1) (take count list))) (rest / 2)) (pos 0))
+      +ℤ inner g out f (drop (p + 1) (take count list)) (rest / 2) ≡ t
+  unfolding inner
+  inner-turn g out f p rest s t l h =
+      +ℤ-assoc s (cond (odd rest) (lin g (getD list p 0) +ℤ chosen (row g (getD list p 0) out) f +ℤ chosen (row g (getD list p 0) (drop (p + 1) (take count list))) (rest / 2)) (pos 0))
+      (inner g out f (drop (p + 1) (take count list)) (rest / 2))
+      ∙ sym (ap (λ (xs : List ℕ). s +ℤ inner g out f xs rest) (next-of p l)) ∙ h
+
+  pub inner-end : (g : Graph) (out : List ℕ) (f p rest : ℕ) (s t : ℤ) → p ≡ count → s +ℤ inner g out f (drop p (take count list)) rest ≡ t → s ≡ t
+  unfolding inner
+  inner-end g out f p rest s t e h = sym (lib.IntN.+ℤ-idr s) ∙ sym (ap (λ (xs : List ℕ). s +ℤ inner g out f xs rest) (none-left p e)) ∙ h
+
+-- the cheapest of one mask more
+pub cheapest-turn : (c : ℕ → ℤ) (m best : ℕ) (t : Bool) → best ≡ cheapest c m → ltZ (c (m + 1)) (c best) ≡ t → cheapest c (m + 1) ≡ cond t (m + 1) best
+unfolding cheapest
+cheapest-turn c m best t e h = rw (add-one, ← e, ← h, add-one)
+
+-- the same where the loop's m is the mask to be looked at
+pub cheapest-next : (c : ℕ → ℤ) (m best : ℕ) (t : Bool) → 1 ≤ m → best ≡ cheapest c (m - 1) → ltZ (c m) (c best) ≡ t → cheapest c (m + 1 - 1) ≡ cond t m best
+cheapest-next c m best t l e h =
+    ap (cheapest c) up ∙ cheapest-turn c (m - 1) best t e (ap (λ (k : ℕ). ltZ (c k) (c best)) down ∙ h) ∙ ap (λ (k : ℕ). cond t k best) down
+  where
+    up : m + 1 - 1 ≡ m - 1 + 1
+    up = omega arith
+
+    down : m - 1 + 1 ≡ m
+    down = omega arith
+
+pub size-is : (count : ℕ) → count < 64 → 1 * 2 ^ count % 18446744073709551616 ≡ 2 ^ count
+size-is count l = ap (λ (z : ℕ). z % 18446744073709551616) (one-mul (2 ^ count)) ∙ mod-eq-of-lt (pow-lt {j = 64} l)

@@ -1,0 +1,133 @@
+-- Turns of the loops that build and fix, and bounds.
+use mathlib.Core.Path.{_≡_, refl, sym, ap, _∙_}
+use mathlib.Core.Bool.{Bool, true, false, cond, not}
+use mathlib.Core.List.{List, [], _∷_, _++_, append-nil}
+use Prim.Native.Nat.{ℕ, zero, suc, _+_, _*_, _-_, _<_, _≤_, _^_}
+use native.Mathlib.Omega.{arith}
+use native.Mathlib.Numerals.{add-one}
+use lib.ListN.{length, getD, set, drop, take, replicate, drop-of-length-le}
+use lib.Seq.{getD-set-other, drop-cons, take-suc, take-length, set-at, append-snoc, length-take-le}
+use lib.Dec.{ltb, eqb}
+use borrow.Author.Tests.{eq-eqb, ne-eqb}
+use native.Mathlib.Decide.{ℕ-discrete}
+use lib.IntN.{ℤ, pos, negsuc, natAbs, _+ℤ_}
+use lib.Signed.{mag}
+use mir.Syntax.{w64}
+use mir.Val.{SFits, ofZ}
+use Rattle.whole.specs.Parts.{natAbs-parts}
+use Rattle.whole.specs.Ints.{ints}
+use Rattle.whole.specs.Words.{isZeroZ, from, those, tab}
+use Rattle.whole.specs.Lists.{tab-replicate, drop-replicate}
+use Rattle.rules.specs.Graph.{Graph, graph, edge, lin, addLinear, addEdge, addTerm, addTerms}
+use Rattle.rules.specs.Fixing.{spread, fix, fixAll}
+use Rattle.rules.specs.Objective.{weightOf}
+use Rattle.accepted.specs.Mass.{weight-at, weight-set, weight-gain, abs-add}
+use Rattle.graph.specs.Held.{Does}
+
+-- an entry gains v
+pub gain-fits : (l : List ℤ) (k : ℕ) (v : ℤ) → weightOf l + natAbs v ≤ 4398046511104 → SFits w64 (getD l k (pos 0) +ℤ v)
+gain-fits l k v h = simp ints (omega (arith, weight-at l k, natAbs-parts (getD l k (pos 0)), natAbs-parts v))
+
+pub sum-fits : (a b : ℤ) → natAbs a + natAbs b ≤ 4398046511104 → SFits w64 (a +ℤ b)
+sum-fits a b h = simp ints (omega (arith, natAbs-parts a, natAbs-parts b))
+
+pub weight-turn : (l : List ℤ) (k : ℕ) → k < length l → weightOf (drop k l) ≡ natAbs (getD l k (pos 0)) + weightOf (drop (k + 1) l)
+unfolding weightOf
+weight-turn l k h = rw (add-one, drop-cons l k (pos 0) h)
+
+module _ (is js : List ℕ) (ws : List ℤ) (k : ℕ) (g : Graph) where
+  pub terms-turn : k < length is → length js ≡ length is → length ws ≡ length is
+      → addTerms (drop k is) (drop k js) (drop k ws) g ≡ addTerms (drop (k + 1) is) (drop (k + 1) js) (drop (k + 1) ws) (addTerm (getD is k 0) (getD js k 0) (getD ws k (pos 0)) g)
+  unfolding addTerms
+  terms-turn h p q =
+      let hj : k < length js = omega arith in
+      let hw : k < length ws = omega arith in
+      rw (add-one, drop-cons is k 0 h, drop-cons js k 0 hj, drop-cons ws k (pos 0) hw)
+
+  pub terms-end : length is ≤ k → addTerms (drop k is) (drop k js) (drop k ws) g ≡ g
+  unfolding addTerms
+  terms-end h = rw (drop-of-length-le is h)
+
+-- a list is copied to the front of another
+pub front-step : {A : Type 0} (w o₀ o : List A) (k : ℕ) (v d : A) → k < length w → k < length o₀ → o ≡ take k w ++ drop k o₀ → v ≡ getD w k d → set o k v ≡ take (k + 1) w ++ drop (k + 1) o₀
+front-step {A} w o₀ o k v d h m e f =
+    rw (add-one, take-suc w k d h, e, f, drop-cons o₀ k d m)
+    (set-at (take k w) _ (drop (suc k) o₀) (getD w k d) k (length-take-le k w (omega arith)) ∙ sym (append-snoc (take k w) (getD w k d) (drop (suc k) o₀)))
+
+pub front-end : {A : Type 0} (w o : List A) (k : ℕ) → k ≡ length w → take k w ++ drop k o ≡ w ++ drop (length w) o
+front-end w o k e = rw (e, take-length)
+
+-- a weight that is, or is not, none
+pub zero-not : (z : ℤ) → (ofZ w64 z ≡ 0 → ⊥) → not (isZeroZ z) ≡ true
+zero-not (pos zero) h = absurd (h refl)
+zero-not (pos (suc n)) h = rw (ne-eqb (suc n) 0 (λ q. omega arith))
+zero-not (negsuc n) h = refl
+
+pub zero-is : (z : ℤ) → mag z < 2 ^ 63 → ofZ w64 z ≡ 0 → not (isZeroZ z) ≡ false
+zero-is (pos n) f h = rw (eq-eqb n 0 h)
+zero-is (negsuc n) f h = absurd (omega arith)
+
+module _ (old : Graph) (i j n : ℕ) (g : Graph) (h : j < n) where
+  abbrev there : ℕ → Bool
+  there j = not (isZeroZ (edge old i j))
+
+  pub spread-more : not (isZeroZ (edge old i j)) ≡ true → spread old i (those there (from j (n - j))) g ≡ spread old i (those there (from (j + 1) (n - (j + 1)))) (addLinear j (edge old i j) g)
+  unfolding spread those from
+  spread-more e = let d : n - j ≡ suc (n - (j + 1)) = omega arith in rw (d, add-one, e)
+
+  pub spread-same : not (isZeroZ (edge old i j)) ≡ false → spread old i (those there (from j (n - j))) g ≡ spread old i (those there (from (j + 1) (n - (j + 1)))) g
+  unfolding spread those from
+  spread-same e = let d : n - j ≡ suc (n - (j + 1)) = omega arith in rw (d, add-one, e)
+
+pub spread-end : (old : Graph) (i j n : ℕ) (g : Graph) → n ≤ j → spread old i (those (λ j. not (isZeroZ (edge old i j))) (from j (n - j))) g ≡ g
+unfolding spread those from
+spread-end old i j n g h = let d : n - j ≡ 0 = omega arith in rw d
+
+module _ (vs : List ℕ) (i : ℕ) (g : Graph) where
+  pub fix-more : i < length vs → ltb (getD vs i 0) 2 ≡ true → fixAll i (drop i vs) g ≡ fixAll (i + 1) (drop (i + 1) vs) (fix i (getD vs i 0) g)
+  unfolding fixAll
+  fix-more h e = rw (add-one, drop-cons vs i 0 h) (ap (λ (t : Bool). fixAll (suc i) (drop (suc i) vs) (cond t (fix i (getD vs i 0) g) g)) e)
+
+  pub fix-same : i < length vs → ltb (getD vs i 0) 2 ≡ false → fixAll i (drop i vs) g ≡ fixAll (i + 1) (drop (i + 1) vs) g
+  unfolding fixAll
+  fix-same h e = rw (add-one, drop-cons vs i 0 h) (ap (λ (t : Bool). fixAll (suc i) (drop (suc i) vs) (cond t (fix i (getD vs i 0) g) g)) e)
+
+  pub fix-end : length vs ≤ i → fixAll i (drop i vs) g ≡ g
+  unfolding fixAll
+  fix-end h = rw (drop-of-length-le vs h)
+
+-- a term: what the code does in each of its arms
+module _ (i j : ℕ) (w : ℤ) (l e : List ℤ) where
+  pub term-lin : (l′ : List ℤ) (x : ℤ) → x ≡ w → i ≡ j → l′ ≡ set l i (getD l i (pos 0) +ℤ x) → Does (addTerm i j w) l e l′ e × (weightOf l′ + weightOf e ≤ weightOf l + weightOf e + 2 * natAbs w)
+  unfolding addTerm addLinear
+  term-lin l′ x f d h =
+      let k : l′ ≡ set l i (getD l i (pos 0) +ℤ w) = h ∙ ap (λ (z : ℤ). set l i (getD l i (pos 0) +ℤ z)) f in
+      ((λ n b ss. rw (eq-eqb i j d, k)), omega (arith, ap weightOf k, weight-gain l i w))
+
+  pub term-edge : (e′ : List ℤ) (x : ℤ) → x ≡ w → (i ≡ j → ⊥) → e′ ≡ set (set e (64 * i + j) (getD e (64 * i + j) (pos 0) +ℤ x)) (64 * j + i) (getD e (64 * j + i) (pos 0) +ℤ x)
+      → i < 64 → j < 64 → Does (addTerm i j w) l e l e′ × (weightOf l + weightOf e′ ≤ weightOf l + weightOf e + 2 * natAbs w)
+  unfolding addTerm addEdge
+  term-edge e′ x f d h hi hj =
+      let p = set e (64 * i + j) (getD e (64 * i + j) (pos 0) +ℤ w) in
+      let v = getD e (64 * j + i) (pos 0) in
+      let k : e′ ≡ set p (64 * j + i) (v +ℤ w) = h ∙ ap (λ (z : ℤ). set (set e (64 * i + j) (getD e (64 * i + j) (pos 0) +ℤ z)) (64 * j + i) (v +ℤ z)) f in
+      let s : natAbs (getD p (64 * j + i) (pos 0)) ≡ natAbs v = ap natAbs (getD-set-other e (64 * i + j) (64 * j + i) (getD e (64 * i + j) (pos 0) +ℤ w) (pos 0) (λ q. d (omega arith))) in
+      ((λ n b ss. rw (ne-eqb i j d, k)), omega (arith, ap weightOf k, weight-gain e (64 * i + j) w, weight-set p (64 * j + i) (v +ℤ w), abs-add v w))
+
+pub states-end : (n k : ℕ) (ss : List ℕ) → n ≤ 64 → k ≡ n → ss ≡ tab (λ k. 2) k ++ drop k (replicate 64 0) → ss ≡ replicate n 2 ++ replicate (64 - n) 0
+states-end n k ss h e d = d ∙ rw (e, tab-replicate {A = ℕ} 2 n, drop-replicate {A = ℕ} n 64 0 h)
+
+-- the same with no length
+pub weight-rest : (l : List ℤ) (k : ℕ) → weightOf (drop k l) ≡ natAbs (getD l k (pos 0)) + weightOf (drop (k + 1) l)
+unfolding weightOf
+weight-rest [] zero = omega arith
+weight-rest [] (suc k) = rw add-one (omega arith)
+weight-rest (x ∷ l) zero = omega arith
+weight-rest (x ∷ l) (suc k) = rw add-one (rw add-one at (weight-rest l k))
+
+pub lin-gain : (m j : ℕ) (b : ℤ) (l l′ e : List ℤ) (ss : List ℕ) (x w v : ℤ) → l′ ≡ set l j (getD l j (pos 0) +ℤ x) → x ≡ w → w ≡ v → addLinear j v (graph m b l e ss) ≡ graph m b l′ e ss
+unfolding addLinear
+lin-gain m j b l l′ e ss x w v h p q = rw (h, p, q)
+
+pub abs-fits : (z : ℤ) → natAbs z ≤ 4398046511104 → SFits w64 z
+abs-fits z h = simp ints (omega (arith, natAbs-parts z))

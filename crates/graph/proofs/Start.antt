@@ -1,0 +1,45 @@
+-- The graph of an objective, from what the code's parts give.
+use mathlib.Core.Path.{_≡_, refl, sym, ap, _∙_}
+use mathlib.Core.List.{List, _++_}
+use Prim.Native.Nat.{ℕ, _+_, _*_, _-_, _<_, _≤_}
+use native.Mathlib.Omega.{arith}
+use lib.ListN.{length, drop, replicate, length-replicate}
+use lib.IntN.{ℤ, pos, natAbs}
+use Rattle.whole.specs.Lists.{drop-replicate}
+use Rattle.rules.specs.Graph.{Graph, graph, addTerms, bare, graphOf, noEdges}
+use Rattle.rules.specs.Fixing.{fixAll, start}
+use Rattle.rules.specs.Objective.{Objective, objective, weightOf}
+use Rattle.accepted.specs.Mass.{mass, weight-append, weight-zeros}
+use Rattle.accepted.specs.Accept.{Fit}
+use Rattle.graph.specs.Held.{held, noLinear, Below, Does}
+use Rattle.graph.specs.declared.Frame.{Frame}
+
+pub blank-length : (l : List ℤ) → l ≡ noLinear → length l ≡ 64
+unfolding noLinear
+blank-length l e = ap length e ∙ length-replicate 64 (pos 0)
+
+module _ (n : ℕ) (w : List ℤ) (is js : List ℕ) (ws : List ℤ) (fs : List ℕ) (fit : Fit (objective n w is js ws fs 0 0)) (l₀ l₁ e₀ : List ℤ) (zl : l₀ ≡ noLinear) (ze : e₀ ≡ noEdges) (ld : l₁ ≡ w ++ drop (length w) l₀) where
+  loaded : l₁ ≡ w ++ replicate (64 - n) (pos 0)
+  unfolding noLinear
+  loaded =
+      let h : n ≤ 64 = fit .small in
+      ld ∙ rw (zl, fit .weights, drop-replicate n 64 (pos 0) h)
+
+  pub light : weightOf l₁ + weightOf e₀ + 2 * weightOf ws ≤ 2199023255552
+  unfolding noEdges
+  light = omega (arith, ap weightOf loaded, weight-append w (replicate (64 - n) (pos 0)), weight-zeros (64 - n), ap weightOf ze, weight-zeros 4096, fit .light)
+
+  pub below-first : Below 64 is
+  below-first = record { each = λ k h. omega (arith, fit .firstBelow k h, fit .small) }
+
+  pub below-second : Below 64 js
+  below-second = record { each = λ k h. omega (arith, fit .secondBelow k h, fit .small) }
+
+  pub begun : (f : Frame) (l e : List ℤ) → f .n ≡ n → f .constant ≡ pos 0 → f .states ≡ replicate n 2 ++ replicate (64 - n) 0 → Does (addTerms is js ws) l₁ e₀ l e
+      → held f l e ≡ graphOf (objective n w is js ws fs 0 0)
+  unfolding graphOf bare
+  begun f l e p q r d = rw (p, q, r) (d n (pos 0) (replicate n 2 ++ replicate (64 - n) 0) ∙ rw (loaded, ze))
+
+  pub started : (f : Frame) (l e : List ℤ) (g : Graph) (sw b : ℕ) → held f l e ≡ graphOf (objective n w is js ws fs 0 0) → g ≡ fixAll 0 fs (held f l e) → g ≡ start (objective n w is js ws fs sw b)
+  unfolding start graphOf bare
+  started f l e g sw b p q = q ∙ ap (fixAll 0 fs) p

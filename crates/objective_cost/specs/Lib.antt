@@ -1,0 +1,4 @@
+pub mod ObjectiveCost
+pub mod BuildLaws
+pub mod FixLaws
+pub mod Theorems

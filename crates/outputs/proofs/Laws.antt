@@ -1,0 +1,128 @@
+-- Turns of the loop that lists the remaining decisions; what the outputs are, in the rules' words.
+use Prim.Native.Nat.{ℕ, zero, suc, _+_, _*_, _-_, _/_, _%_, _<_, _≤_}
+use mathlib.Core.Path.{_≡_, refl, ap, sym, _∙_}
+use mathlib.Core.Bool.{Bool, true, false, cond, _&&_}
+use mathlib.Core.List.{List, [], _∷_, _++_, map}
+use native.Mathlib.Omega.{arith}
+use native.Mathlib.Numerals.{add-one}
+use native.Mathlib.Decide.{ℕ-discrete}
+use lib.Dec.{ltb}
+use lib.ListN.{getD, set, take, length, replicate, length-append, length-replicate, length-map, List·getD-append, List·getD-map, List·getD-eq-default, getD-replicate}
+use lib.Seq.{take-suc-set, append-snoc, getD-set-same, getD-set-other, getD-take, length-take-le, ext-getD, getD-append-add}
+use lib.IntN.{ℤ, pos}
+use borrow.Author.Tests.{ltb-true, ltb-false}
+use Rattle.whole.specs.Words.{those, from, upto, tab}
+use Rattle.whole.specs.Lists.{tab-at, tab-map, length-tab}
+use Rattle.rules.specs.Graph.{Graph, actives}
+use Rattle.rules.specs.Outcome.{linearOut, cell, edgeOut}
+use Rattle.outputs.specs.Out.{rest, Places, linearAt, edgeAt, linearOf, cellOf}
+use Rattle.outputs.specs.declared.Remaining.{Remaining}
+
+module _ (p : ℕ → Bool) (n i : ℕ) where
+  pub those-more : i < n → p i ≡ true → those p (from i (n - i)) ≡ i ∷ those p (from (i + 1) (n - (i + 1)))
+  unfolding those from
+  those-more h e = let d : n - i ≡ suc (n - (i + 1)) = omega arith in rw (d, add-one, e)
+
+  pub those-same : i < n → p i ≡ false → those p (from i (n - i)) ≡ those p (from (i + 1) (n - (i + 1)))
+  unfolding those from
+  those-same h e = let d : n - i ≡ suc (n - (i + 1)) = omega arith in rw (d, add-one, e)
+
+  pub those-end : n ≤ i → those p (from i (n - i)) ≡ []
+  unfolding those from
+  those-end h = let d : n - i ≡ 0 = omega arith in rw d
+
+  -- a decision joins the list
+  pub listed : (l : List ℕ) (m : ℕ) (all : List ℕ) → m < length l → i < n → p i ≡ true → take m l ++ those p (from i (n - i)) ≡ all → take (m + 1) (set l m i) ++ those p (from (i + 1) (n - (i + 1))) ≡ all
+  listed l m all h k e d =
+      rw (add-one, take-suc-set l m i h) (append-snoc (take m l) i (those p (from (i + 1) (n - (i + 1)))) ∙ ap (λ (t : List ℕ). take m l ++ t) (sym (those-more k e)) ∙ d)
+
+pub below-set : (b : ℕ) (l : List ℕ) (m v : ℕ) → m < length l → v < b → ((k : ℕ) → getD l k 0 < b) → (k : ℕ) → getD (set l m v) k 0 < b
+below-set b l m v h hv f k = by (ℕ-discrete k m)
+  where
+    by : Dec (k ≡ m) → getD (set l m v) k 0 < b
+    by (yes e) = rw (e, getD-set-same l m v 0 h) hv
+    by (no e) = rw (getD-set-other l m k v 0 e) (f k)
+
+pub zero-at : (n k : ℕ) → getD (replicate n 0) k 0 < 64
+zero-at zero k = omega arith
+zero-at (suc n) zero = omega arith
+zero-at (suc n) (suc k) = zero-at n k
+
+-- the outputs
+map-at : (f : ℕ → ℤ) (l : List ℕ) (n : ℕ) → n < length l → getD (map f l) n (pos 0) ≡ f (getD l n 0)
+map-at f [] n h = absurd (omega arith)
+map-at f (x ∷ l) zero h = refl
+map-at f (x ∷ l) (suc n) h = map-at f l n (omega arith)
+
+pad-at : (a : List ℤ) (m i : ℕ) → length a ≤ i → getD (a ++ replicate m (pos 0)) i (pos 0) ≡ pos 0
+pad-at [] zero i h = refl
+pad-at [] (suc m) zero h = refl
+pad-at [] (suc m) (suc i) h = pad-at [] m i (omega arith)
+pad-at (x ∷ a) m zero h = absurd (omega arith)
+pad-at (x ∷ a) m (suc i) h = pad-at a m i (omega arith)
+
+tab-cong : (f g : ℕ → ℤ) (n : ℕ) → ((k : ℕ) → k < n → f k ≡ g k) → tab f n ≡ tab g n
+unfolding tab
+tab-cong f g zero h = refl
+tab-cong f g (suc n) h = rw (tab-cong f g n (λ k l. h k (omega arith)), h n (omega arith))
+
+test : (S : Bool → Type 0) (a b : ℕ) → (a < b → S true) → (b ≤ a → S false) → S (ltb a b)
+test S a b f g = go (ltb a b) refl
+  where
+    go : (t : Bool) → ltb a b ≡ t → S t
+    go true e = f (ltb-true a b e)
+    go false e = g (ltb-false a b e)
+
+module _ (r : Remaining) (ok : Places r) where
+  length-rest : length (rest r) ≡ r .len
+  length-rest = length-take-le (r .len) (r .list) (omega (arith, ok .few, ok .long))
+
+  rest-at : (k : ℕ) → k < r .len → getD (rest r) k 0 ≡ getD (r .list) k 0
+  rest-at k h = getD-take (r .len) (r .list) k 0 h
+
+  module _ (l : List ℤ) where
+    entry : ℕ → ℤ
+    entry i = getD l i (pos 0)
+
+    same-length : length (tab (linearAt l (r .list) (r .len)) 64) ≡ length (linearOf l (rest r))
+    same-length = length-tab (linearAt l (r .list) (r .len)) 64 ∙ simp (length-append, length-map, length-replicate, length-rest) (omega (arith, ok .few))
+
+    same-at : (k : ℕ) → k < 64 → linearAt l (r .list) (r .len) k ≡ getD (linearOf l (rest r)) k (pos 0)
+    same-at k h =
+        test (λ t. cond t (getD l (getD (r .list) k 0) (pos 0)) (pos 0) ≡ getD (linearOf l (rest r)) k (pos 0)) k (r .len)
+        (λ s.
+        let m : k < length (map (λ i. getD l i (pos 0)) (rest r)) = rw (length-map, length-rest) s in
+        let n : k < length (rest r) = rw length-rest s in
+        sym (List·getD-append (map (λ i. getD l i (pos 0)) (rest r)) (replicate (64 - length (rest r)) (pos 0)) (pos 0) k m ∙ map-at (λ i. getD l i (pos 0)) (rest r) k n ∙ ap (λ (i : ℕ). getD l i (pos 0)) (rest-at k s)))
+        (λ s.
+        let m : length (map (λ i. getD l i (pos 0)) (rest r)) ≤ k = rw (length-map, length-rest) s in
+        sym (pad-at (map (λ i. getD l i (pos 0)) (rest r)) (64 - length (rest r)) k m))
+
+    pub linear-out : tab (linearAt l (r .list) (r .len)) 64 ≡ linearOf l (rest r)
+    linear-out =
+        ext-getD (pos 0) _ _ same-length (λ k h.
+        let m : k < 64 = rw (length-tab (linearAt l (r .list) (r .len)) 64) at h in
+        tab-at (linearAt l (r .list) (r .len)) 64 k (pos 0) m ∙ same-at k m)
+
+    cell-at : (k : ℕ) → edgeAt l (r .list) (r .len) k ≡ cellOf l (rest r) k
+    cell-at k =
+        rw length-rest
+        (test (λ t. cond t (cond (ltb (k % 64) (r .len)) (getD l (64 * getD (r .list) (k / 64) 0 + getD (r .list) (k % 64) 0) (pos 0)) (pos 0)) (pos 0) ≡ cond (t && ltb (k % 64) (r .len)) (getD l (64 * getD (rest r) (k / 64) 0 + getD (rest r) (k % 64) 0) (pos 0)) (pos 0)) (k / 64) (r .len)
+        (λ s.
+        test (λ u. cond u (getD l (64 * getD (r .list) (k / 64) 0 + getD (r .list) (k % 64) 0) (pos 0)) (pos 0) ≡ cond (true && u) (getD l (64 * getD (rest r) (k / 64) 0 + getD (rest r) (k % 64) 0) (pos 0)) (pos 0)) (k % 64) (r .len)
+        (λ u. rw (rest-at (k / 64) s, rest-at (k % 64) u))
+        (λ u. refl))
+        (λ s. refl))
+
+    pub edges-out : tab (edgeAt l (r .list) (r .len)) 4096 ≡ map (cellOf l (rest r)) (upto 4096)
+    edges-out = tab-cong (edgeAt l (r .list) (r .len)) (cellOf l (rest r)) 4096 (λ k h. cell-at k) ∙ sym (tab-map (cellOf l (rest r)) 4096)
+
+-- the rules' outputs of a graph whose remaining decisions are these
+module _ (g : Graph) (r : Remaining) (ok : Places r) (h : rest r ≡ actives g) where
+  pub linear-of : tab (linearAt (g .linear) (r .list) (r .len)) 64 ≡ linearOut g
+  unfolding linearOut
+  linear-of = linear-out r ok (g .linear) ∙ ap (linearOf (g .linear)) h
+
+  pub edges-of : tab (edgeAt (g .edges) (r .list) (r .len)) 4096 ≡ edgeOut g
+  unfolding edgeOut cell
+  edges-of = edges-out r ok (g .edges) ∙ ap (λ (rs : List ℕ). map (cellOf (g .edges) rs) (upto 4096)) h

@@ -1,0 +1,78 @@
+use Rattle.outputs.proofs.Laws.{zero-at, those-same, those-end, listed, below-set}
+use Rattle.outputs.specs.Out.{rest}
+use Rattle.whole.specs.Words.{those, from}
+use borrow.Author.Tests.{eq-eqb, ne-eqb}
+use lib.ListN.{length, take, set, getD, length-set}
+use lib.Dec.{eqb}
+use native.Mathlib.Nat.{sub-zero}
+use native.Mathlib.Omega.{arith}
+use mathlib.Core.List.{List, [], _++_, append-nil}
+use mathlib.Core.Logic.{⊎-elim}
+use mathlib.Core.Bool.{Bool}
+use mathlib.Core.Path.{_≡_, refl, ap, sym, _∙_}
+use Prim.Native.Nat.{ℕ, _≤_, _<_, _-_, _+_}
+use borrow.Author.Needs.{needs}
+use Rattle.outputs.proofs.still_there.Statement.{statement}
+use Rattle.outputs.proofs.still_there.Tie as tie
+
+abbrev two : List ℕ → ℕ → Bool
+two ss i = eqb (getD ss i 0) 2
+
+abbrev Inv-loop : tie.InvT-loop
+Inv-loop f n r₀ i₀ r i =
+    (i ≤ n) × (r .len ≤ i) × (length (r .list) ≡ 64) × ((k : ℕ) → getD (r .list) k 0 < 64)
+    × (rest r ++ those (two (f .states)) (from i (n - i)) ≡ those (two (f .states)) (from 0 n))
+
+abbrev μ-loop : tie.MeasureT-loop
+μ-loop f n r₀ i₀ r i = n - i
+
+loop-holds : tie.Need-loop-holds Inv-loop μ-loop
+loop-holds c = (omega arith, omega arith, refl, zero-at 64, rw sub-zero)
+
+loop-again : tie.Need-loop-again Inv-loop μ-loop
+loop-again c =
+    let l = c .before .before .before .loop in
+    let s = c .before .before .before .before in
+    let f = s .args .t1 in
+    let lt : l .i < f .n = omega arith in
+    let hn : f .n ≤ 64 = s .pre in
+    let room : l .r .len < length (l .r .list) = omega arith in
+    ⊎-elim
+    (λ w. rw (w .1) (
+      omega arith,
+      omega arith,
+      length-set (l .r .list) (l .r .len) (l .i) ∙ l .inv .2,
+      below-set 64 (l .r .list) (l .r .len) (l .i) room (omega arith) (l .inv .3),
+      listed (two (f .states)) (f .n) (l .i) (l .r .list) (l .r .len) _ room lt (eq-eqb _ _ (w .0 .taken)) (l .inv .4),
+    ))
+    (λ w. rw (w .1) (
+      omega arith,
+      omega arith,
+      l .inv .2,
+      l .inv .3,
+      ap (λ (t : List ℕ). rest (l .r) ++ t) (sym (those-same (two (f .states)) (f .n) (l .i) lt (ne-eqb _ _ (w .0 .left)))) ∙ l .inv .4,
+    ))
+    (c .if1 .came)
+
+returns : tie.Need-returns Inv-loop μ-loop
+returns c =
+    let l = c .before .loop in
+    let s = c .before .before in
+    let f = s .args .t1 in
+    (sym (append-nil _) ∙ ap (λ (t : List ℕ). rest (l .r) ++ t) (sym (those-end (two (f .states)) (f .n) (l .i) (omega arith))) ∙ l .inv .4, record { few = omega arith; long = l .inv .2; each = l .inv .3 })
+
+pub still-there-spec : {M : Type 1} → statement M
+still-there-spec =
+    tie.close
+    (tie.spec
+    Inv-loop
+    μ-loop
+    loop-holds
+    (λ c. search needs)
+    (λ c. search needs)
+    (λ c. search needs)
+    (λ c. search needs)
+    (λ c. search needs)
+    (λ c. search needs)
+    loop-again
+    returns)

@@ -1,0 +1,35 @@
+-- What is written out, over the list of the remaining decisions.
+-- Assumes nothing.
+use Prim.Native.Nat.{ℕ, _+_, _*_, _-_, _/_, _%_, _<_, _≤_}
+use mathlib.Core.List.{List, map, _++_}
+use mathlib.Core.Path.{_≡_}
+use mathlib.Core.Bool.{Bool, cond, _&&_}
+use lib.Dec.{ltb, eqb}
+use lib.ListN.{getD, length, take, replicate}
+use lib.IntN.{ℤ, pos}
+use Rattle.whole.specs.Words.{those, upto, tab}
+use Rattle.outputs.specs.declared.Remaining.{Remaining}
+
+abbrev pub rest : Remaining → List ℕ
+rest r = take (r .len) (r .list)
+
+abbrev pub activeOf : List ℕ → ℕ → List ℕ
+activeOf ss n = those (λ i. eqb (getD ss i 0) 2) (upto n)
+
+pub record Places (r : Remaining) : Type 0 where
+  pub few : r .len ≤ 64
+  pub long : length (r .list) ≡ 64
+  pub each : (k : ℕ) → getD (r .list) k 0 < 64
+
+-- entry k of each output
+abbrev pub linearAt : List ℤ → List ℕ → ℕ → ℕ → ℤ
+linearAt l list r k = cond (ltb k r) (getD l (getD list k 0) (pos 0)) (pos 0)
+
+abbrev pub edgeAt : List ℤ → List ℕ → ℕ → ℕ → ℤ
+edgeAt e list r k = cond (ltb (k / 64) r) (cond (ltb (k % 64) r) (getD e (64 * getD list (k / 64) 0 + getD list (k % 64) 0) (pos 0)) (pos 0)) (pos 0)
+
+abbrev pub linearOf : List ℤ → List ℕ → List ℤ
+linearOf l rs = map (λ i. getD l i (pos 0)) rs ++ replicate (64 - length rs) (pos 0)
+
+abbrev pub cellOf : List ℤ → List ℕ → ℕ → ℤ
+cellOf e rs k = cond (ltb (k / 64) (length rs) && ltb (k % 64) (length rs)) (getD e (64 * getD rs (k / 64) 0 + getD rs (k % 64) 0) (pos 0)) (pos 0)

@@ -1,0 +1,87 @@
+-- Laws of the ring of specs/Items.antt.
+use Prim.Native.Nat.{ℕ, zero, suc, _+_, _-_, _%_, _<_}
+use mathlib.Core.Path.{_≡_, refl, ap, sym, _∙_}
+use mathlib.Core.List.{List, [], _∷_, _++_}
+use mathlib.Core.Bool.{Bool, true, false}
+use native.Mathlib.Numerals.{add-one}
+use native.Mathlib.Omega.{arith}
+use native.Mathlib.Decide.{ℕ-discrete}
+use lib.ListN.{getD, set, length}
+use lib.Seq.{getD-set-same, getD-set-other}
+use borrow.Author.Tests.{ne-eqb}
+use Rattle.whole.specs.Words.{mem}
+use Rattle.whole.specs.Pigeon.{Apart, none, one, pigeon}
+use Rattle.whole.specs.Members.{apart-new, apart-join, mem-append, in-head, in-right, out-of-cons}
+use Rattle.queue.specs.Items.{ringFrom}
+
+-- the place counts by its remainder alone
+ring-mod : (n : ℕ) (r : List ℕ) (h k : ℕ) → h % 64 ≡ k % 64 → ringFrom r h n ≡ ringFrom r k n
+unfolding ringFrom
+ring-mod zero r h k e = refl
+ring-mod (suc n) r h k e = rw (e, ring-mod n r (suc h) (suc k) (omega arith))
+
+-- the front, and the rest
+ring-cons : (r : List ℕ) (h n : ℕ) → 0 < n → ringFrom r h n ≡ getD r (h % 64) 0 ∷ ringFrom r (h + 1) (n - 1)
+unfolding ringFrom
+ring-cons r h zero l = absurd (omega arith)
+ring-cons r h (suc n) l =
+    let e : suc n - 1 ≡ n = omega arith in
+    rw (add-one, e)
+
+pub ring-pop : (r : List ℕ) (h n : ℕ) → h < 64 → 0 < n → ringFrom r h n ≡ getD r h 0 ∷ ringFrom r ((h + 1) % 64) (n - 1)
+ring-pop r h n lh l =
+    let e : h % 64 ≡ h = omega arith in
+    rw (ring-cons r h n l, e, ring-mod (n - 1) r ((h + 1) % 64) (h + 1) (omega arith))
+
+-- one more at the back
+ring-push : (n : ℕ) (r : List ℕ) (h p d : ℕ) → length r ≡ 64 → n < 64 → p ≡ (h + n) % 64 → ringFrom (set r p d) h (suc n) ≡ ringFrom r h n ++ (d ∷ [])
+unfolding ringFrom
+ring-push zero r h p d l b e =
+    let q : h % 64 ≡ p = omega arith in
+    rw (q, getD-set-same r p d 0 (omega arith))
+ring-push (suc n) r h p d l b e =
+    let q : h % 64 ≡ p → ⊥ = λ x. omega arith in
+    rw (getD-set-other r p (h % 64) d 0 q, ring-push n r (suc h) p d l (omega arith) (omega arith))
+
+pub ring-more : (n : ℕ) (r : List ℕ) (h d : ℕ) → length r ≡ 64 → n < 64 → ringFrom (set r ((h + n) % 64) d) h (n + 1) ≡ ringFrom r h n ++ (d ∷ [])
+ring-more n r h d l b = rw add-one (ring-push n r h ((h + n) % 64) d l b refl)
+
+-- the list has as many entries as the queue says
+pub ring-length : (r : List ℕ) (h n : ℕ) → length (ringFrom r h n) ≡ n
+unfolding ringFrom
+ring-length r h zero = refl
+ring-length r h (suc n) = ap suc (ring-length r (suc h) n)
+
+-- a decision that does not wait: fewer than 64 others do
+pub room : (d : ℕ) (xs : List ℕ) → Apart 64 xs → d < 64 → mem d xs ≡ false → length xs < 64
+room d xs a l h = let both : Apart 64 (d ∷ xs) = one l h a in omega (arith, pigeon 64 both)
+
+-- it joins the back, and the decisions that wait are still different ones
+pub apart-more : (d : ℕ) (xs : List ℕ) → Apart 64 xs → d < 64 → mem d xs ≡ false → Apart 64 (xs ++ (d ∷ []))
+unfolding mem
+apart-more d xs a l h = apart-join a (one l refl none) (λ k m. out-of-cons k d [] (λ e. absurd (off k m e)) refl)
+  where
+    off : (k : ℕ) → mem k xs ≡ true → k ≡ d → ⊥
+    off k m e = let z : _≡_ {A = Bool} true false = sym m ∙ ap (λ (j : ℕ). mem j xs) e ∙ h in mathlib.Core.Bool.true≢false z
+
+-- the flags once the front has gone, and once d has joined
+module _ (flags : List Bool) (xs : List ℕ) (d : ℕ) (long : length flags ≡ 64) (l : d < 64) where
+  pub flags-less : Apart 64 (d ∷ xs) → ((k : ℕ) → k < 64 → getD flags k false ≡ mem k (d ∷ xs)) → (k : ℕ) → k < 64 → getD (set flags d false) k false ≡ mem k xs
+  unfolding mem
+  flags-less a h k lk =
+      elim (ℕ-discrete k d) [
+        | yes e ↦ rw e (getD-set-same flags d false false (omega arith) ∙ sym (apart-new a))
+        | no e ↦ getD-set-other flags d k false false e ∙ h k lk ∙ rw (ne-eqb k d e)
+      ]
+
+  pub flags-more : ((k : ℕ) → k < 64 → getD flags k false ≡ mem k xs) → (k : ℕ) → k < 64 → getD (set flags d true) k false ≡ mem k (xs ++ (d ∷ []))
+  unfolding mem
+  flags-more h k lk =
+      elim (ℕ-discrete k d) [
+        | yes e ↦ rw e (getD-set-same flags d true false (omega arith) ∙ sym (in-right d xs (d ∷ []) (in-head d [])))
+        | no e ↦ getD-set-other flags d k true false e ∙ h k lk ∙ sym (mem-append k xs (d ∷ []) ∙ rw (ne-eqb k d e) (or-false (mem k xs)))
+      ]
+    where
+      or-false : (b : Bool) → mathlib.Core.Bool._||_ b false ≡ b
+      or-false true = refl
+      or-false false = refl

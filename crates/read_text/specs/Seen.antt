@@ -1,0 +1,63 @@
+-- What a reader's answer says, as the definitions have it: a value, and what is left of the text t. Assumes nothing.
+use Prim.Native.Nat.{ℕ, _≤_}
+use mathlib.Core.List.{List}
+use lib.ListN.{take, drop}
+use lib.IntN.{ℤ}
+use Rattle.rules.specs.ReadText.{Read, got, bad, Head, Terms, Input, given, refused, objectiveOf}
+use Rattle.read_text.specs.declared.Number.{Number}
+use Rattle.read_text.specs.declared.Byte.{Byte}
+use Rattle.read_text.specs.declared.Byte.the-variants as byte
+use Rattle.read_text.specs.declared.Parsed.{Parsed}
+use Rattle.read_text.specs.declared.Parsed.the-variants as parsed
+use Rattle.read_text.specs.declared.Narrow.{Narrow}
+use Rattle.read_text.specs.declared.Narrow.the-variants as narrow
+use Rattle.read_text.specs.declared.Head as code
+use Rattle.read_text.specs.declared.First.{First}
+use Rattle.read_text.specs.declared.First.the-variants as first
+use Rattle.read_text.specs.declared.Line.{Line}
+use Rattle.read_text.specs.declared.Line.the-variants as line
+use Rattle.read_text.specs.declared.Weight.{Weight}
+use Rattle.read_text.specs.declared.Weight.the-variants as weight
+use Rattle.read_text.specs.declared.Number.the-variants.{Value, Malformed}
+
+abbrev pub seen : List ℕ → Number → Read ℕ
+seen t (Value v next) = got v (drop next t)
+seen t Malformed = bad
+
+abbrev pub within : ℕ → Number → Type 0
+within max (Value v next) = v ≤ max
+within max Malformed = Unit
+
+abbrev pub seenZ : List ℕ → Weight → Read ℤ
+seenZ t (weight.Value v next) = got v (drop next t)
+seenZ t weight.Malformed = bad
+
+-- xs was read
+abbrev pub seenLine : {A : Type 0} → List ℕ → List A → Line → Read (List A)
+seenLine t xs (line.Read next) = got xs (drop next t)
+seenLine t xs line.Malformed = bad
+
+abbrev pub seen32 : List ℕ → Narrow → Read ℕ
+seen32 t (narrow.Value v next) = got v (drop next t)
+seen32 t narrow.Malformed = bad
+
+-- the code's first line is the definition's
+abbrev pub headOf : code.Head → Head
+headOf h = record { n = h .n; switches = h .switches; budget = h .budget; terms = h .terms }
+
+abbrev pub seenHead : List ℕ → First → Read Head
+seenHead t (first.Read h next) = got (headOf h) (drop next t)
+seenHead t first.Malformed = bad
+
+abbrev pub seen8 : List ℕ → Byte → Read ℕ
+seen8 t (byte.Value v next) = got v (drop next t)
+seen8 t byte.Malformed = bad
+
+abbrev pub seenTerms : List ℕ → List ℕ → List ℕ → List ℤ → Line → Read Terms
+seenTerms t is js ws (line.Read next) = got (record { is = is; js = js; ws = ws }) (drop next t)
+seenTerms t is js ws line.Malformed = bad
+
+-- the arrays hold n weights, n fixing bytes and the terms at their fronts
+abbrev pub seenInput : List ℤ → List ℕ → List ℕ → List ℕ → List ℤ → Parsed → Input
+seenInput ps fs is js ws (parsed.Given h) = given (objectiveOf (headOf h) (take (h .n) ps) (take (h .n) fs) (record { is = take (h .terms) is; js = take (h .terms) js; ws = take (h .terms) ws }))
+seenInput ps fs is js ws (parsed.Refused k) = refused k

@@ -1,0 +1,319 @@
+// Readers of the program's text: a cursor by value, and an enum for the answer.
+ghost use mathlib.Core.Path.{_≡_};
+ghost use Prim.Native.Nat.{ℕ, _+_, _*_, _<_, _≤_};
+ghost use lib.ListN.{length, take, drop};
+ghost use mathlib.Core.List.{List, [], _∷_};
+ghost use lib.IntN.{ℤ, pos, negℤ};
+ghost use Rattle.rules.specs.ReadText.{Read, got, bad, number, number8, number32, weight, ender, line, empty, head, terms, input};
+ghost use Rattle.read_text.specs.Seen.{seen, seenZ, seen32, seen8, within, seenLine, seenHead, seenTerms, seenInput};
+
+// A number and where to read on.
+pub enum Number {
+    Value(u64, usize),
+    Malformed,
+}
+
+fn wide(b: u8) -> u64
+    ensures { λ r. ⌜ r ≡ b ⌝ }
+{
+    b as u64
+}
+
+// The number at `at`, of any count of digits, with the byte `end` after it.
+pub fn read_number(text: &[u8], at: usize, max: u64, end: u8) -> Number
+    requires { ⌜ (9 ≤ max) × (end < 48) ⌝ }
+    ensures reads { λ r. ⌜ seen (now (text .entry)) r ≡ number max end (drop at (now (text .entry))) ⌝ }
+    ensures small { λ r. ⌜ within max r ⌝ }
+{
+    if text.len() <= at {
+        return Number::Malformed;
+    }
+    let first = text[at];
+    if first < 48 {
+        return Number::Malformed;
+    }
+    if 57 < first {
+        return Number::Malformed;
+    }
+    let mut v = wide(first) - 48;
+    let mut i = at + 1;
+    while i < text.len() {
+        let b = text[i];
+        if b < 48 {
+            if b == end {
+                return Number::Value(v, i + 1);
+            }
+            return Number::Malformed;
+        }
+        if 57 < b {
+            return Number::Malformed;
+        }
+        let d = wide(b) - 48;
+        if (max - d) / 10 < v {
+            return Number::Malformed;
+        }
+        v = 10 * v + d;
+        i = i + 1;
+    }
+    Number::Malformed
+}
+
+// A weight and where to read on.
+pub enum Weight {
+    Value(i64, usize),
+    Malformed,
+}
+
+// v as it stands, and its opposite.
+fn plain(v: u64) -> i64
+    requires { ⌜ v ≤ 9223372036854775807 ⌝ }
+    ensures { λ r. ⌜ r ≡ pos v ⌝ }
+{
+    v as i64
+}
+
+fn opposite(v: u64) -> i64
+    requires { ⌜ v ≤ 9223372036854775808 ⌝ }
+    ensures { λ r. ⌜ r ≡ negℤ (pos v) ⌝ }
+{
+    if v == 0 { 0 } else { -1 - plain(v - 1) }
+}
+
+pub fn read_weight(text: &[u8], at: usize, end: u8) -> Weight
+    requires { ⌜ end < 48 ⌝ }
+    ensures { λ r. ⌜ seenZ (now (text .entry)) r ≡ weight end (drop at (now (text .entry))) ⌝ }
+{
+    if text.len() <= at {
+        return Weight::Malformed;
+    }
+    if text[at] == 45 {
+        match read_number(text, at + 1, 9223372036854775808, end) {
+            Number::Value(v, next) => Weight::Value(opposite(v), next),
+            Number::Malformed => Weight::Malformed,
+        }
+    } else {
+        match read_number(text, at, 9223372036854775807, end) {
+            Number::Value(v, next) => Weight::Value(plain(v), next),
+            Number::Malformed => Weight::Malformed,
+        }
+    }
+}
+
+// A line that was read, and where to read on.
+pub enum Line {
+    Read(usize),
+    Malformed,
+}
+
+// What ends a number with this many more to come on its line.
+fn end_of(more: usize) -> u8
+    ensures { λ r. ⌜ r ≡ ender more ⌝ }
+    ensures { λ r. ⌜ r < 48 ⌝ }
+{
+    if more == 0 { 10 } else { 32 }
+}
+
+fn read_empty(text: &[u8], at: usize) -> Line
+    ensures { λ r. ⌜ (seenLine {A = ℤ} (now (text .entry)) [] r ≡ empty (drop at (now (text .entry)))) × (seenLine {A = ℕ} (now (text .entry)) [] r ≡ empty (drop at (now (text .entry)))) ⌝ }
+{
+    if text.len() <= at {
+        return Line::Malformed;
+    }
+    if text[at] == 10 {
+        Line::Read(at + 1)
+    } else {
+        Line::Malformed
+    }
+}
+
+// A line of n weights, into the front of `out`.
+pub fn read_weights(text: &[u8], at: usize, n: usize, out: &mut [i64; 64]) -> Line
+    requires { ⌜ (n ≤ 64) × (length (now out) ≡ 64) ⌝ }
+    ensures { λ r. ⌜ seenLine (now (text .entry)) (take n (now (out .exit))) r ≡ line weight n (drop at (now (text .entry))) ⌝ }
+{
+    if n == 0 {
+        return read_empty(text, at);
+    }
+    let mut p = at;
+    let mut i = 0;
+    while i < n {
+        let Weight::Value(w, next) = read_weight(text, p, end_of(n - i - 1)) else {
+            return Line::Malformed;
+        };
+        out[i] = w;
+        p = next;
+        i = i + 1;
+    }
+    Line::Read(p)
+}
+
+// A u32 and where to read on.
+pub enum Narrow {
+    Value(u32, usize),
+    Malformed,
+}
+
+pub fn read_u32(text: &[u8], at: usize, end: u8) -> Narrow
+    requires { ⌜ end < 48 ⌝ }
+    ensures { λ r. ⌜ seen32 (now (text .entry)) r ≡ number32 end (drop at (now (text .entry))) ⌝ }
+{
+    match read_number(text, at, 4294967295, end) {
+        Number::Value(v, next) => Narrow::Value(v as u32, next),
+        Number::Malformed => Narrow::Malformed,
+    }
+}
+
+// The first line.
+pub struct Head {
+    pub n: u32,
+    pub switches: u32,
+    pub budget: u32,
+    pub terms: u32,
+}
+
+pub enum First {
+    Read(Head, usize),
+    Malformed,
+}
+
+pub fn read_head(text: &[u8]) -> First
+    ensures { λ r. ⌜ seenHead (now (text .entry)) r ≡ head (now (text .entry)) ⌝ }
+{
+    let Narrow::Value(n, a) = read_u32(text, 0, 32) else {
+        return First::Malformed;
+    };
+    let Narrow::Value(switches, b) = read_u32(text, a, 32) else {
+        return First::Malformed;
+    };
+    let Narrow::Value(budget, c) = read_u32(text, b, 32) else {
+        return First::Malformed;
+    };
+    let Narrow::Value(terms, d) = read_u32(text, c, 10) else {
+        return First::Malformed;
+    };
+    First::Read(
+        Head {
+            n,
+            switches,
+            budget,
+            terms,
+        },
+        d,
+    )
+}
+
+// A byte and where to read on.
+pub enum Byte {
+    Value(u8, usize),
+    Malformed,
+}
+
+pub fn read_u8(text: &[u8], at: usize, end: u8) -> Byte
+    requires { ⌜ end < 48 ⌝ }
+    ensures { λ r. ⌜ seen8 (now (text .entry)) r ≡ number8 end (drop at (now (text .entry))) ⌝ }
+{
+    match read_number(text, at, 255, end) {
+        Number::Value(v, next) => Byte::Value(v as u8, next),
+        Number::Malformed => Byte::Malformed,
+    }
+}
+
+// A line of n fixing bytes, into the front of `out`.
+pub fn read_fixings(text: &[u8], at: usize, n: usize, out: &mut [u8; 64]) -> Line
+    requires { ⌜ (n ≤ 64) × (length (now out) ≡ 64) ⌝ }
+    ensures { λ r. ⌜ seenLine (now (text .entry)) (take n (now (out .exit))) r ≡ line number8 n (drop at (now (text .entry))) ⌝ }
+{
+    if n == 0 {
+        return read_empty(text, at);
+    }
+    let mut p = at;
+    let mut i = 0;
+    while i < n {
+        let Byte::Value(w, next) = read_u8(text, p, end_of(n - i - 1)) else {
+            return Line::Malformed;
+        };
+        out[i] = w;
+        p = next;
+        i = i + 1;
+    }
+    Line::Read(p)
+}
+
+// The lines of k terms.
+pub fn read_terms(
+    text: &[u8],
+    at: usize,
+    k: usize,
+    firsts: &mut [u32; 1024],
+    seconds: &mut [u32; 1024],
+    weights: &mut [i64; 1024],
+) -> Line
+    requires { ⌜ (k ≤ 1024) × (length (now firsts) ≡ 1024) × (length (now seconds) ≡ 1024) × (length (now weights) ≡ 1024) ⌝ }
+    ensures { λ r. ⌜ seenTerms (now (text .entry)) (take k (now (firsts .exit))) (take k (now (seconds .exit))) (take k (now (weights .exit))) r ≡ terms [] [] [] k (drop at (now (text .entry))) ⌝ }
+{
+    let mut p = at;
+    let mut m = 0;
+    while m < k {
+        let Narrow::Value(i, a) = read_u32(text, p, 32) else {
+            return Line::Malformed;
+        };
+        let Narrow::Value(j, b) = read_u32(text, a, 32) else {
+            return Line::Malformed;
+        };
+        let Weight::Value(w, c) = read_weight(text, b, 10) else {
+            return Line::Malformed;
+        };
+        firsts[m] = i;
+        seconds[m] = j;
+        weights[m] = w;
+        p = c;
+        m = m + 1;
+    }
+    Line::Read(p)
+}
+
+// What a text gives, or the number of its refusal.
+pub enum Parsed {
+    Given(Head),
+    Refused(u8),
+}
+
+pub fn parse(
+    text: &[u8],
+    weights: &mut [i64; 64],
+    fixings: &mut [u8; 64],
+    firsts: &mut [u32; 1024],
+    seconds: &mut [u32; 1024],
+    term_weights: &mut [i64; 1024],
+) -> Parsed
+    requires { ⌜ (length (now weights) ≡ 64) × (length (now fixings) ≡ 64) × (length (now firsts) ≡ 1024) × (length (now seconds) ≡ 1024) × (length (now «term_weights») ≡ 1024) ⌝ }
+    ensures { λ r. ⌜ seenInput (now (weights .exit)) (now (fixings .exit)) (now (firsts .exit)) (now (seconds .exit)) (now («term_weights» .exit)) r ≡ input (now (text .entry)) ⌝ }
+{
+    if 32768 < text.len() {
+        return Parsed::Refused(13);
+    }
+    let First::Read(h, a) = read_head(text) else {
+        return Parsed::Refused(13);
+    };
+    let n = h.n;
+    let k = h.terms;
+    if 64 < n {
+        return Parsed::Refused(1);
+    }
+    if 1024 < k {
+        return Parsed::Refused(13);
+    }
+    let Line::Read(b) = read_weights(text, a, n as usize, weights) else {
+        return Parsed::Refused(13);
+    };
+    let Line::Read(c) = read_fixings(text, b, n as usize, fixings) else {
+        return Parsed::Refused(13);
+    };
+    let Line::Read(d) = read_terms(text, c, k as usize, firsts, seconds, term_weights) else {
+        return Parsed::Refused(13);
+    };
+    if d < text.len() {
+        return Parsed::Refused(13);
+    }
+    Parsed::Given(h)
+}

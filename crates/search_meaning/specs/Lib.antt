@@ -1,0 +1,3 @@
+pub mod Paths
+pub mod PathLaws
+pub mod Search

@@ -1,0 +1,69 @@
+-- Lists that ascend strictly, and how large a byte of choices can be: plain laws of lists and masks.
+-- Assumes nothing.
+use mathlib.Core.Path.{_≡_, refl, sym, ap, _∙_}
+use mathlib.Core.Bool.{Bool, true, false, cond, _&&_}
+use mathlib.Core.List.{List, [], _∷_}
+use Prim.Native.Nat.{ℕ, zero, suc, _+_, _*_, _<_, _≤_, _^_}
+use native.Mathlib.Omega.{arith}
+use native.Mathlib.Nat.{pow-suc}
+use lib.Dec.{ltb}
+use lib.Pow.{pow-pos}
+use borrow.Author.Tests.{lt-ltb}
+use Rattle.whole.specs.Words.{from, upto, mem, those, all, oneIf, bitsFrom}
+use Rattle.whole.specs.Tests.{and-true, and-both}
+use Rattle.whole.specs.Members.{in-head, in-tail}
+use Rattle.rules.specs.Record.{ascending}
+
+-- ---- every one passes
+pub all-of : (p : ℕ → Bool) (xs : List ℕ) → ((k : ℕ) → mem k xs ≡ true → p k ≡ true) → all p xs ≡ true
+unfolding all
+all-of p [] h = refl
+all-of p (x ∷ xs) h = and-both (h x (in-head x xs)) (all-of p xs (λ k m. h k (in-tail k x xs m)))
+
+all-those : (p q : ℕ → Bool) (xs : List ℕ) → all q xs ≡ true → all q (those p xs) ≡ true
+unfolding all those
+all-those p q [] h = refl
+all-those p q (x ∷ xs) h = let r = and-true (q x) (all q xs) h in go (p x) (r .0) (all-those p q xs (r .1))
+  where
+    go : (b : Bool) → q x ≡ true → all q (those p xs) ≡ true → all q (cond b (x ∷ those p xs) (those p xs)) ≡ true
+    go true h r = and-both h r
+    go false h r = r
+
+-- ---- ascending
+pub ascending-those : (p : ℕ → Bool) (xs : List ℕ) → ascending xs ≡ true → ascending (those p xs) ≡ true
+unfolding ascending those
+ascending-those p [] h = refl
+ascending-those p (x ∷ xs) h = let r = and-true (all (ltb x) xs) (ascending xs) h in go (p x) (all-those p (ltb x) xs (r .0)) (ascending-those p xs (r .1))
+  where
+    go : (b : Bool) → all (ltb x) (those p xs) ≡ true → ascending (those p xs) ≡ true → ascending (cond b (x ∷ those p xs) (those p xs)) ≡ true
+    go true h r = and-both h r
+    go false h r = r
+
+above : (x k c : ℕ) → x < k → all (ltb x) (from k c) ≡ true
+unfolding all from
+above x k zero h = refl
+above x k (suc c) h = and-both (lt-ltb x k h) (above x (suc k) c (omega arith))
+
+ascending-from : (k c : ℕ) → ascending (from k c) ≡ true
+unfolding ascending from
+ascending-from k zero = refl
+ascending-from k (suc c) = and-both (above k (suc k) c (omega arith)) (ascending-from (suc k) c)
+
+-- those of 0, 1, .. that pass
+pub ascending-upto : (p : ℕ → Bool) (n : ℕ) → ascending (those p (upto n)) ≡ true
+ascending-upto p n = ascending-those p (upto n) (ascending-from 0 n)
+
+-- ---- c bits from bit b on are below the bit after them
+bits-room : (f : ℕ → Bool) (b c : ℕ) → bitsFrom f b c + 2 ^ b ≤ 2 ^ (b + c)
+unfolding bitsFrom
+bits-room f b zero = let e : b + 0 ≡ b = omega arith in rw e (omega arith)
+bits-room f b (suc c) =
+    let e : b + suc c ≡ suc b + c = omega arith in
+    rw e (go (f b) (bits-room f (suc b) c))
+  where
+    go : (t : Bool) → bitsFrom f (suc b) c + 2 ^ suc b ≤ 2 ^ (suc b + c) → oneIf t * 2 ^ b + bitsFrom f (suc b) c + 2 ^ b ≤ 2 ^ (suc b + c)
+    go true h = omega (arith, rw pow-suc at h)
+    go false h = omega (arith, rw pow-suc at h)
+
+pub bits-below : (f : ℕ → Bool) (c : ℕ) → bitsFrom f 0 c < 2 ^ c
+bits-below f c = let e : 0 + c ≡ c = omega arith in let h : bitsFrom f 0 c + 2 ^ 0 ≤ 2 ^ c = rw e at (bits-room f 0 c) in omega arith

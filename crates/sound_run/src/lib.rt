@@ -1,0 +1,1 @@
+// Every run keeps the cost, at every budget and switch set: all in specs/.
