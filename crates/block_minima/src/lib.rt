@@ -1,14 +1,12 @@
 // The cheapest interior mask of a block, for a filling of its boundary.
 ghost use mathlib.Core.Path.{_≡_};
-ghost use mathlib.Core.List.{map};
-ghost use Prim.Native.Nat.{ℕ, _+_, _*_, _-_, _^_, _<_, _≤_};
-ghost use lib.ListN.{getD, take, drop};
-ghost use lib.IntN.{pos};
+ghost use Prim.Native.Nat.{_<_, _≤_};
+ghost use lib.ListN.{take, drop};
 ghost use Rattle.whole.specs.Parts.{∣_∣};
 ghost use Rattle.whole.specs.Words.{chosen};
 ghost use Rattle.rules.specs.Graph.{row};
 ghost use Rattle.rules.specs.Size.{Within};
-ghost use Rattle.rules.specs.SmallBlock.{inner, cheapest};
+ghost use Rattle.rules.specs.SmallBlock.{inner};
 ghost use Rattle.block_minima.specs.Weights.{weights, Listed, Minimum};
 
 // The sum of i's edges to the decisions of a list, from a place on, that a mask chooses.

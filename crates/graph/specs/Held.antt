@@ -29,6 +29,10 @@ pub record Below (b : ℕ) (l : List ℕ) : Type 0 where
 abbrev pub Does : (Graph → Graph) → List ℤ → List ℤ → List ℤ → List ℤ → Type 0
 Does f l e l′ e′ = (n : ℕ) (b : ℤ) (ss : List ℕ) → graph n b l′ e′ ss ≡ f (graph n b l e ss)
 
+-- the same of the edges alone
+abbrev pub DoesEdges : (Graph → Graph) → List ℤ → List ℤ → Type 0
+DoesEdges f e e′ = (n : ℕ) (b : ℤ) (l : List ℤ) (ss : List ℕ) → graph n b l e′ ss ≡ f (graph n b l e ss)
+
 -- the same of a neighbours' spread: row is i's row of the old graph, as far as n
 abbrev pub Spreads : List ℤ → ℕ → List ℤ → List ℤ → Type 0
 Spreads row n l l′ =

@@ -1,3 +1,5 @@
 pub mod Held
 pub mod Near
 pub mod NearLaws
+pub mod Small
+pub mod HeldLaws

@@ -10,7 +10,7 @@ use lib.ListN.{length, getD, set, replicate, length-append, length-replicate}
 use lib.Seq.{set-at, append-snoc}
 use lib.IntN.{ℤ, pos}
 use Rattle.whole.specs.Words.{isZeroZ, from, upto, those}
-use Rattle.rules.specs.Graph.{Graph, graph, edge, neighbours}
+use Rattle.rules.specs.Graph.{Graph, edge, row, neighbours}
 use Rattle.graph.specs.Near.{padded, nearAmong, nearOf, Nears, Degrees}
 use Rattle.graph.specs.declared.Near.{Near}
 
@@ -119,3 +119,46 @@ module _ (e : List ℤ) (i : ℕ) where
           → _≡_ {A = Near} (record { list = set (t .list) (t .count) j; weights = set (t .weights) (t .count) w; count = t .count + 1 }) S
           → _≡_ {A = Near} (record { list = set (r .list) (r .count) j; weights = set (r .weights) (r .count) w; count = r .count + 1 }) S
       q-ind r t q {S} h = subst (λ (r : Near). _≡_ {A = Near} (record { list = set (r .list) (r .count) j; weights = set (r .weights) (r .count) w; count = r .count + 1 }) S) (sym q) h
+
+-- ---- what is read from it
+from-below : (a c k b : ℕ) → a + c ≤ b → 0 < b → getD (from a c) k 0 < b
+unfolding from
+from-below a zero k b h p = p
+from-below a (suc c) zero b h p = omega arith
+from-below a (suc c) (suc k) b h p = from-below (suc a) c k b (omega arith) p
+
+those-below : (p : ℕ → Bool) (xs : List ℕ) (b k : ℕ) → 0 < b → ((k : ℕ) → getD xs k 0 < b) → getD (those p xs) k 0 < b
+unfolding those
+those-below p [] b k h f = h
+those-below p (x ∷ xs) b k h f = go (p x) k (λ j. those-below p xs b j h (λ m. f (suc m)))
+  where
+    go : (t : Bool) (k : ℕ) → ((j : ℕ) → getD (those p xs) j 0 < b) → getD (cond t (x ∷ those p xs) (those p xs)) k 0 < b
+    go true zero r = f 0
+    go true (suc k) r = r k
+    go false k r = r k
+
+-- each neighbour is a decision, and a place past the last is 0
+pub neighbour-below : (g : Graph) (i k : ℕ) → g .n ≤ 64 → getD (neighbours g i) k 0 < 64
+unfolding neighbours
+neighbour-below g i k h =
+    those-below (λ j. not (isZeroZ (edge g i j))) (upto (g .n)) 64 k (omega arith) (λ m. from-below 0 (g .n) m 64 (omega arith) (omega arith))
+
+pub few-neighbours : (g : Graph) (i : ℕ) → length (neighbours g i) ≤ g .n
+unfolding neighbours
+few-neighbours g i = those-few (λ j. not (isZeroZ (edge g i j))) (g .n)
+
+module _ (g : Graph) (i : ℕ) (near : Near) (is : near ≡ nearOf g i) where
+  pub near-count : near .count ≡ length (neighbours g i)
+  unfolding nearOf
+  near-count = ap (λ (x : Near). x .count) is
+
+  pub near-list : (k : ℕ) → getD (near .list) k 0 ≡ getD (neighbours g i) k 0
+  unfolding nearOf
+  near-list k = ap (λ (x : Near). getD (x .list) k 0) is ∙ padded-at 0 (neighbours g i) k
+
+  pub near-weights : (k : ℕ) → getD (near .weights) k (pos 0) ≡ getD (row g i (neighbours g i)) k (pos 0)
+  unfolding nearOf
+  near-weights k = ap (λ (x : Near). getD (x .weights) k (pos 0)) is ∙ padded-at (pos 0) (row g i (neighbours g i)) k
+
+  pub near-below : g .n ≤ 64 → (k : ℕ) → getD (near .list) k 0 < 64
+  near-below h k = rw (near-list k) (neighbour-below g i k h)

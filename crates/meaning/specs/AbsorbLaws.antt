@@ -1,21 +1,20 @@
 -- The updates keep a graph shaped, and a table over the masks of at most two decisions, once absorbed, is added to the cost: the mask facts of Eliminate and of a block.
 -- Assumes nothing.
-use mathlib.Core.Path.{_≡_, refl, sym, ap, ap₂, _∙_, subst}
-use mathlib.Core.Bool.{Bool, true, false, cond}
-use mathlib.Core.List.{List, [], _∷_}
+use mathlib.Core.Path.{_≡_, sym, ap, ap₂, _∙_}
+use mathlib.Core.Bool.{Bool, true, false}
+use mathlib.Core.List.{[], _∷_}
 use mathlib.Core.Logic.{_≢_}
-use Prim.Native.Nat.{ℕ, zero, suc, _+_, _*_, _<_, _≤_}
-use native.Mathlib.Omega.{arith}
+use Prim.Native.Nat.{ℕ, _+_, _*_, _<_}
 use native.Mathlib.Decide.{ℕ-discrete}
-use lib.ListN.{length, getD, set, length-set}
-use lib.IntN.{ℤ, pos, negsuc, _+ℤ_, _-ℤ_, negℤ, +ℤ-assoc}
-use Rattle.whole.specs.Words.{oneIf, bit}
-use Rattle.rules.specs.Graph.{Graph, lin, edge, addConstant, addLinear, addEdge, clear, dropTo}
+use lib.ListN.{set, length-set}
+use lib.IntN.{ℤ, pos, _+ℤ_, _-ℤ_}
+use Rattle.whole.specs.Words.{oneIf}
+use Rattle.whole.specs.Ints.{ints, zarith}
+use Rattle.rules.specs.Graph.{Graph, lin, edge, addConstant, addLinear, addEdge}
 use Rattle.rules.specs.Eliminate.{absorb}
-use Rattle.rules.specs.DegreeThree.{absorb3, moebius, pass}
+use Rattle.rules.specs.DegreeThree.{moebius}
 use Rattle.meaning.specs.Cost.{when}
 use Rattle.meaning.specs.CostLaws.{cost, Shaped, base-cost, lin-cost, edge-cost, here, there, elsewhere}
-use Rattle.meaning.specs.Linear.{at, nil, _⊕_, _⊝_, solve}
 
 pub shaped-base : (v : ℤ) (g : Graph) → Shaped g → Shaped (addConstant v g)
 unfolding addConstant
@@ -72,8 +71,8 @@ one-of g x t j s lj =
     ∙ sums (x j)
   where
     sums : (b : Bool) → cost g x +ℤ t 0 +ℤ when b (t 1 -ℤ t 0) ≡ cost g x +ℤ t (oneIf b)
-    sums true = solve (cost g x ∷ t 0 ∷ t 1 ∷ []) (at 0 ⊕ at 1 ⊕ (at 2 ⊝ at 1)) (at 0 ⊕ at 2) tt
-    sums false = solve (cost g x ∷ t 0 ∷ []) (at 0 ⊕ at 1 ⊕ nil) (at 0 ⊕ at 1) tt
+    sums true = simp ints (omega zarith)
+    sums false = simp ints (omega zarith)
 
 pub two-of : (g : Graph) (x : ℕ → Bool) (t : ℕ → ℤ) (j k : ℕ) → Shaped g → j < g .n → k < g .n → j ≢ k
     → cost (absorb t (j ∷ k ∷ []) g) x ≡ cost g x +ℤ t (oneIf (x j) + 2 * oneIf (x k))
@@ -91,10 +90,10 @@ two-of g x t j k s lj lk jk =
   where
     sums : (b c : Bool)
         → cost g x +ℤ t 0 +ℤ when b (t 1 -ℤ t 0) +ℤ when c (t 2 -ℤ t 0) +ℤ when b (when c (t 3 -ℤ t 1 -ℤ t 2 +ℤ t 0)) ≡ cost g x +ℤ t (oneIf b + 2 * oneIf c)
-    sums true true = solve (cost g x ∷ t 0 ∷ t 1 ∷ t 2 ∷ t 3 ∷ []) (at 0 ⊕ at 1 ⊕ (at 2 ⊝ at 1) ⊕ (at 3 ⊝ at 1) ⊕ (at 4 ⊝ at 2 ⊝ at 3 ⊕ at 1)) (at 0 ⊕ at 4) tt
-    sums true false = solve (cost g x ∷ t 0 ∷ t 1 ∷ []) (at 0 ⊕ at 1 ⊕ (at 2 ⊝ at 1) ⊕ nil ⊕ nil) (at 0 ⊕ at 2) tt
-    sums false true = solve (cost g x ∷ t 0 ∷ t 2 ∷ []) (at 0 ⊕ at 1 ⊕ nil ⊕ (at 2 ⊝ at 1) ⊕ nil) (at 0 ⊕ at 2) tt
-    sums false false = solve (cost g x ∷ t 0 ∷ []) (at 0 ⊕ at 1 ⊕ nil ⊕ nil ⊕ nil) (at 0 ⊕ at 1) tt
+    sums true true = simp ints (omega zarith)
+    sums true false = simp ints (omega zarith)
+    sums false true = simp ints (omega zarith)
+    sums false false = simp ints (omega zarith)
 
 -- the eight sums of degree three, entry 7 being 0
 pub three-sum : (t : ℕ → ℤ) → moebius t 7 ≡ pos 0 → (a b c : Bool)
@@ -102,18 +101,11 @@ pub three-sum : (t : ℕ → ℤ) → moebius t 7 ≡ pos 0 → (a b c : Bool)
     +ℤ when a (when b (moebius t 3)) +ℤ when a (when c (moebius t 5)) +ℤ when b (when c (moebius t 6))
     ≡ t (oneIf a + 2 * oneIf b + 4 * oneIf c)
 unfolding moebius
-three-sum t h true true true =
-    solve (t 0 ∷ t 1 ∷ t 2 ∷ t 3 ∷ t 4 ∷ t 5 ∷ t 6 ∷ t 7 ∷ [])
-    (at 0 ⊕ (at 1 ⊝ at 0) ⊕ (at 2 ⊝ at 0) ⊕ (at 4 ⊝ at 0) ⊕ (at 3 ⊝ at 2 ⊝ (at 1 ⊝ at 0)) ⊕ (at 5 ⊝ at 4 ⊝ (at 1 ⊝ at 0)) ⊕ (at 6 ⊝ at 4 ⊝ (at 2 ⊝ at 0)))
-    (at 7 ⊝ (at 7 ⊝ at 6 ⊝ (at 5 ⊝ at 4) ⊝ (at 3 ⊝ at 2 ⊝ (at 1 ⊝ at 0)))) tt
-    ∙ ap (λ (z : ℤ). t 7 -ℤ z) h ∙ solve (t 7 ∷ []) (at 0 ⊝ nil) (at 0) tt
-three-sum t h true true false =
-    solve (t 0 ∷ t 1 ∷ t 2 ∷ t 3 ∷ []) (at 0 ⊕ (at 1 ⊝ at 0) ⊕ (at 2 ⊝ at 0) ⊕ nil ⊕ (at 3 ⊝ at 2 ⊝ (at 1 ⊝ at 0)) ⊕ nil ⊕ nil) (at 3) tt
-three-sum t h true false true =
-    solve (t 0 ∷ t 1 ∷ t 4 ∷ t 5 ∷ []) (at 0 ⊕ (at 1 ⊝ at 0) ⊕ nil ⊕ (at 2 ⊝ at 0) ⊕ nil ⊕ (at 3 ⊝ at 2 ⊝ (at 1 ⊝ at 0)) ⊕ nil) (at 3) tt
-three-sum t h true false false = solve (t 0 ∷ t 1 ∷ []) (at 0 ⊕ (at 1 ⊝ at 0) ⊕ nil ⊕ nil ⊕ nil ⊕ nil ⊕ nil) (at 1) tt
-three-sum t h false true true =
-    solve (t 0 ∷ t 2 ∷ t 4 ∷ t 6 ∷ []) (at 0 ⊕ nil ⊕ (at 1 ⊝ at 0) ⊕ (at 2 ⊝ at 0) ⊕ nil ⊕ nil ⊕ (at 3 ⊝ at 2 ⊝ (at 1 ⊝ at 0))) (at 3) tt
-three-sum t h false true false = solve (t 0 ∷ t 2 ∷ []) (at 0 ⊕ nil ⊕ (at 1 ⊝ at 0) ⊕ nil ⊕ nil ⊕ nil ⊕ nil) (at 1) tt
-three-sum t h false false true = solve (t 0 ∷ t 4 ∷ []) (at 0 ⊕ nil ⊕ nil ⊕ (at 1 ⊝ at 0) ⊕ nil ⊕ nil ⊕ nil) (at 1) tt
-three-sum t h false false false = solve (t 0 ∷ []) (at 0 ⊕ nil ⊕ nil ⊕ nil ⊕ nil ⊕ nil ⊕ nil) (at 0) tt
+three-sum t h true true true = simp ints (omega (zarith, simp ints at h))
+three-sum t h true true false = simp ints (omega zarith)
+three-sum t h true false true = simp ints (omega zarith)
+three-sum t h true false false = simp ints (omega zarith)
+three-sum t h false true true = simp ints (omega zarith)
+three-sum t h false true false = simp ints (omega zarith)
+three-sum t h false false true = simp ints (omega zarith)
+three-sum t h false false false = simp ints (omega zarith)

@@ -3,31 +3,31 @@
 -- winning mask (`block-plan`), and no plan costs less than its reduced cost (`block-least`).
 -- Assumes nothing.
 use mathlib.Core.Path.{_≡_, refl, sym, ap, ap₂, _∙_, subst}
-use mathlib.Core.Bool.{Bool, true, false, cond, not, _&&_, _||_}
-use mathlib.Core.List.{List, [], _∷_, _++_, map}
+use mathlib.Core.Bool.{Bool, true, false, cond, not, _&&_}
+use mathlib.Core.List.{List, [], _∷_, _++_}
 use mathlib.Core.Logic.{_≢_}
 use Prim.Native.Nat.{ℕ, zero, suc, _+_, _*_, _-_, _/_, _%_, _^_, _<_, _≤_}
 use native.Mathlib.Omega.{arith}
 use native.Mathlib.Nat.{pow-suc}
 use lib.Pow.{pow-pos}
-use lib.Dec.{T, eqb}
-use lib.ListN.{length, getD, set}
+use lib.Dec.{eqb}
+use lib.ListN.{length, set}
 use lib.Seq.{getD-set-other, getD-set-same}
-use lib.IntN.{ℤ, pos, _+ℤ_, +ℤ-idl, +ℤ-idr, +ℤ-assoc}
+use lib.IntN.{ℤ, pos, _+ℤ_, +ℤ-idr}
 use lib.Signed.{ltZ, _≤ℤ_, _<ℤ_, ≤ℤ-refl}
 use borrow.Author.Tests.{eqb-true, eqb-false, eq-eqb, ne-eqb}
 use Rattle.whole.specs.Ints.{ints, zarith}
-use Rattle.whole.specs.Cmp.{lt-ind, ≤ℤ-trans}
+use Rattle.whole.specs.Cmp.{lt-ind}
 use Rattle.whole.specs.Words.{isZeroZ, odd, oneIf, upto, mem, those, some, chosen}
-use Rattle.rules.specs.Graph.{Graph, lin, edge, row, clear, dropTo}
-use Rattle.rules.specs.Eliminate.{absorb}
+use Rattle.rules.specs.Graph.{Graph, lin, edge, row, dropTo}
 use Rattle.rules.specs.SmallBlock.{boundary, inner, cheapest, bestMask, blockTable, dropAll, eliminateBlock}
-use Rattle.meaning.specs.Cost.{when, when-zero, sumTo, sum-ext, sum-zero, rowCost, costOf, deltaOf}
+use Rattle.whole.specs.Sum.{Σ-cong}
+use Rattle.meaning.specs.Cost.{shift-≤, regroup, when, when-zero, sum-zero, rowCost, costOf, deltaOf}
 use Rattle.meaning.specs.CostLaws.{cost, Shaped, drop-cost, clear-zero, clear-other}
-use Rattle.meaning.specs.EliminateLaws.{maskAt, over, odd-of, half-of, chosen-mask, zero-of, shaped-drop, Pair, empty, single, double, absorb-cost}
+use Rattle.meaning.specs.EliminateLaws.{maskAt, odd-of, half-of, chosen-mask, zero-of, shaped-drop, Pair, empty, single, double, absorb-cost}
 use Rattle.whole.specs.Pigeon.{Apart, none, one}
-use Rattle.whole.specs.Tests.{cases, clash, or-false, and-both, not-off, on-not, off-not, refuse}
-use Rattle.whole.specs.Members.{in-cons, in-head, in-tail, in-left, in-right, out-append, out-both, out-cons, out-of-cons, differ, in-those, to-those, in-upto, some-false, some-true, apart-head, apart-new, apart-tail, apart-left, apart-right, apart-below, apart-join, apart-those, apart-upto}
+use Rattle.whole.specs.Tests.{cases, clash, and-both, not-off, on-not, off-not, refuse}
+use Rattle.whole.specs.Members.{in-cons, in-head, in-tail, out-append, out-cons, out-of-cons, differ, in-those, to-those, in-upto, some-true, apart-head, apart-new, apart-tail, apart-left, apart-right, apart-below, apart-join, apart-those, apart-upto}
 use Rattle.meaning.specs.OverLists.{over-append, over-all}
 
 -- ---- what dropping i leaves alone, and what it makes 0
@@ -267,7 +267,7 @@ drop-all-gone (i ∷ is) g k s a m =
 -- plans that agree but on decisions that are gone cost the same
 pub gone-cost : (g : Graph) (x y : ℕ → Bool) (b : List ℕ) → ((k : ℕ) → mem k b ≡ true → Gone g k) → ((k : ℕ) → mem k b ≡ false → x k ≡ y k) → cost g x ≡ cost g y
 unfolding costOf
-gone-cost g x y b h e = ap (λ (z : ℤ). g .constant +ℤ z) (sum-ext (rowCost (lin g) (edge g) y) (rowCost (lin g) (edge g) x) (g .n) rows)
+gone-cost g x y b h e = ap (λ (z : ℤ). g .constant +ℤ z) (Σ-cong (g .n) (rowCost (lin g) (edge g) x) (rowCost (lin g) (edge g) y) rows)
   where
     pulls : (k j : ℕ) → k < g .n → j < g .n → when (x j) (edge g k j) ≡ when (y j) (edge g k j)
     pulls k j lk lj = cases (mem j b)
@@ -283,7 +283,7 @@ gone-cost g x y b h e = ap (λ (z : ℤ). g .constant +ℤ z) (sum-ext (rowCost 
     rows : (k : ℕ) → k < g .n → rowCost (lin g) (edge g) x k ≡ rowCost (lin g) (edge g) y k
     rows k lk = cases (mem k b)
         (λ m. empty-row x k lk m ∙ sym (empty-row y k lk m))
-        (λ m. ap₂ (λ (c : Bool) (z : ℤ). when c (lin g k +ℤ z)) (e k m) (sum-ext (λ j. when (y j) (edge g k j)) (λ j. when (x j) (edge g k j)) k (λ j l. pulls k j lk (omega arith))))
+        (λ m. ap₂ (λ (c : Bool) (z : ℤ). when c (lin g k +ℤ z)) (e k m) (Σ-cong k (λ j. when (x j) (edge g k j)) (λ j. when (y j) (edge g k j)) (λ j l. pulls k j lk (omega arith))))
 
 -- ---- the boundary
 pub boundary-apart : (g : Graph) (b : List ℕ) → Apart (g .n) (boundary g b)
@@ -335,20 +335,14 @@ module _ (g : Graph) (b : List ℕ) (s : Shaped g) (a : Apart (g .n) b) (l : len
   -- the reduced cost and the members' own cost, against the old cost and the table
   pub block-cost : (x : ℕ → Bool)
       → cost (eliminateBlock b g) x +ℤ inner g (boundary g b) (maskAt x (boundary g b)) b (maskAt x b) ≡ cost g x +ℤ blockTable g b (maskAt x (boundary g b))
-  block-cost x = rw (absorbed x, parted x) (turn (cost (dropAll b g) x) (blockTable g b (maskAt x (boundary g b))) (inner g (boundary g b) (maskAt x (boundary g b)) b (maskAt x b)))
-    where
-      turn : (u v w : ℤ) → u +ℤ v +ℤ w ≡ u +ℤ w +ℤ v
-      turn u v w = simp ints (omega zarith)
+  block-cost x = rw (absorbed x, parted x) (regroup (cost (dropAll b g) x) (blockTable g b (maskAt x (boundary g b))) (inner g (boundary g b) (maskAt x (boundary g b)) b (maskAt x b)))
 
   -- no plan costs less than its reduced cost
   pub block-least : (x : ℕ → Bool) → cost (eliminateBlock b g) x ≤ℤ cost g x
   block-least x =
       let t : blockTable g b (maskAt x (boundary g b)) ≤ℤ inner g (boundary g b) (maskAt x (boundary g b)) b (maskAt x b) =
       cheapest-least (inner g (boundary g b) (maskAt x (boundary g b)) b) (2 ^ length b - 1) (maskAt x b) (omega (arith, mask-below x b)) in
-      last (cost (eliminateBlock b g) x) (cost g x) (inner g (boundary g b) (maskAt x (boundary g b)) b (maskAt x b)) (blockTable g b (maskAt x (boundary g b))) (block-cost x) t
-    where
-      last : (c d u v : ℤ) → c +ℤ u ≡ d +ℤ v → v ≤ℤ u → c ≤ℤ d
-      last c d u v e h = simp ints (omega (zarith, simp ints at e))
+      shift-≤ (cost (eliminateBlock b g) x) (cost g x) (inner g (boundary g b) (maskAt x (boundary g b)) b (maskAt x b)) (blockTable g b (maskAt x (boundary g b))) (block-cost x) t
 
   -- the plan with the members set to the winning mask for its filling of the boundary
   abbrev pub settled : (ℕ → Bool) → ℕ → Bool

@@ -1,23 +1,22 @@
 -- A block's steps, played last to first, set its members to the winning mask for the boundary's filling. With BlockCost: the reduced cost of a plan is
 -- the old cost of the plan grown back.
 -- Assumes nothing.
-use mathlib.Core.Path.{_≡_, refl, sym, ap, ap₂, _∙_, subst}
-use mathlib.Core.Bool.{Bool, true, false, cond}
+use mathlib.Core.Path.{_≡_, refl, sym, ap, ap₂, _∙_}
+use mathlib.Core.Bool.{Bool, true, cond}
 use mathlib.Core.List.{List, [], _∷_}
-use Prim.Native.Nat.{ℕ, zero, suc, _+_, _*_, _/_, _%_, _^_, _<_, _≤_}
+use Prim.Native.Nat.{ℕ, zero, suc, _+_, _*_, _/_, _^_, _<_}
 use native.Mathlib.Omega.{arith}
-use native.Mathlib.Nat.{pow-suc, not-suc-le-zero, mul-comm, mul-assoc, div-div-eq-div-mul, div-one, one-mul, mul-one}
+use native.Mathlib.Nat.{pow-suc, not-suc-le-zero, div-div-eq-div-mul, div-one, one-mul}
 use lib.Dec.{eqb}
 use lib.ListN.{length}
-use borrow.Author.Tests.{eqb-true, eqb-false, ne-eqb}
-use Rattle.whole.specs.Words.{odd, bit, oneIf, mem, bitsFrom}
+use Rattle.whole.specs.Words.{bit, oneIf, mem, bitsFrom}
 use Rattle.rules.specs.Graph.{Graph}
 use Rattle.rules.specs.Eliminate.{Step}
 use Rattle.rules.specs.SmallBlock.{boundary, bestMask, blockSteps, eliminateBlock, findBlock, members}
 use Rattle.meaning.specs.CostLaws.{cost, Shaped}
 use Rattle.meaning.specs.EliminateLaws.{maskAt, odd-of, half-of}
 use Rattle.whole.specs.Tests.{refuse, clash}
-use Rattle.whole.specs.Members.{in-head, in-tail, out-cons, out-of-cons}
+use Rattle.whole.specs.Members.{in-tail}
 use Rattle.meaning.specs.BlockCost.{put, put-other, mask-ext, mask-below, boundary-outside, gone-cost}
 use Rattle.meaning.specs.Found.{found-plan}
 use Rattle.whole.specs.Masks.{bit-half, bit-first}

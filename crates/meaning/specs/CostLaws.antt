@@ -1,8 +1,8 @@
 -- What each atomic update does to the cost of a plan.
 -- Assumes nothing.
-use mathlib.Core.Path.{_≡_, refl, sym, ap, ap₂, _∙_, subst}
-use mathlib.Core.Bool.{Bool, true, false, cond}
-use mathlib.Core.List.{List, [], _∷_, _++_, map}
+use mathlib.Core.Path.{_≡_, refl, sym, ap, _∙_, subst}
+use mathlib.Core.Bool.{Bool}
+use mathlib.Core.List.{List, [], _∷_}
 use mathlib.Core.Logic.{_≢_}
 use Prim.Native.Nat.{ℕ, zero, suc, _+_, _*_, _<_, _≤_}
 use native.Mathlib.Omega.{arith}
@@ -10,9 +10,9 @@ use native.Mathlib.Nat.{not-suc-le-zero}
 use native.Mathlib.Decide.{ℕ-discrete, decLt}
 use lib.ListN.{length, getD, set, length-set}
 use lib.Seq.{getD-set-same, getD-set-other}
-use lib.IntN.{ℤ, pos, negsuc, _+ℤ_, _-ℤ_, negℤ}
+use lib.IntN.{ℤ, pos, _+ℤ_}
 use Rattle.rules.specs.Graph.{Graph, lin, edge, addConstant, addLinear, addEdge, clear, dropTo}
-use Rattle.meaning.specs.Cost.{when, when-swap, sumTo, costOf, deltaOf, Dropped, cost-base, cost-lin, cost-edge, cost-drop}
+use Rattle.meaning.specs.Cost.{when, when-swap, costOf, deltaOf, cost-base, cost-lin, cost-edge, cost-drop}
 
 -- the cost of x in a graph
 abbrev pub cost : Graph → (ℕ → Bool) → ℤ

@@ -1,10 +1,9 @@
 -- A dominant neighbour: at every plan its choice for i is a best one, so contracting makes no plan worse.
 -- Assumes nothing.
 use mathlib.Core.Path.{_≡_, refl, sym, ap, _∙_, subst}
-use mathlib.Core.Bool.{Bool, true, false, cond, not, _&&_}
+use mathlib.Core.Bool.{Bool, true, false, cond, not}
 use mathlib.Core.List.{List, [], _∷_, map}
-use Prim.Native.Nat.{ℕ, zero, suc, _<_}
-use native.Mathlib.Omega.{arith}
+use Prim.Native.Nat.{ℕ, _<_}
 use lib.IntN.{ℤ, pos, _+ℤ_, _-ℤ_}
 use lib.Signed.{ltZ, leZ, _≤ℤ_, ≤ℤ-refl}
 use Rattle.whole.specs.Ints.{ints, zarith}
@@ -14,10 +13,12 @@ use Rattle.whole.specs.Tests.{clash, and-true}
 use Rattle.whole.specs.Members.{in-cons}
 use Rattle.rules.specs.Graph.{Graph, lin, edge, neighbours, row}
 use Rattle.rules.specs.DominantEdge.{negatives, positives, lo, hi, positive, upper, lower, dominates, contract}
-use Rattle.meaning.specs.Cost.{when, when-zero, sumTo, deltaOf}
+use Rattle.whole.specs.Sum.{Σ<}
+use Rattle.meaning.specs.Cost.{when, when-zero, deltaOf}
 use Rattle.meaning.specs.CostLaws.{cost, Shaped}
 use Rattle.meaning.specs.EliminateLaws.{over, over-nbrs}
-use Rattle.meaning.specs.ReduceLaws.{ReducedBy, never-more, move-reduces, turn-reduces}
+use Rattle.meaning.specs.ReduceLaws.{ReducedBy, never-more}
+use Rattle.meaning.specs.ContractLaws.{move-reduces, turn-reduces}
 use Rattle.meaning.specs.Growth.{in-nbrs}
 
 -- what a weight adds lies between its negative and its positive part
@@ -68,17 +69,17 @@ module _ (x : ℕ → Bool) (w : ℕ → ℤ) where
 
 -- delta of i at a plan lies between lo and hi, where j's edge w counts as it is
 module _ (g : Graph) (i j : ℕ) (m : mem j (neighbours g i) ≡ true) (x : ℕ → Bool) where
-  over-is : over (λ k. when (x k) (edge g i k)) (neighbours g i) ≡ sumTo (λ k. when (x k) (edge g i k)) (g .n)
+  over-is : over (λ k. when (x k) (edge g i k)) (neighbours g i) ≡ Σ< (g .n) (λ k. when (x k) (edge g i k))
   over-is = over-nbrs g i (λ k. when (x k) (edge g i k)) (λ k e. ap (when (x k)) e ∙ when-zero (x k))
 
   delta-low : (lo g i +ℤ when (x j) (edge g i j)) ≤ℤ (deltaOf (g .n) (lin g) (edge g) x i +ℤ below0 (edge g i j))
   delta-low =
-      there (lin g i) (negatives (row g i (neighbours g i))) (when (x j) (edge g i j)) (lin g i) (sumTo (λ k. when (x k) (edge g i k)) (g .n)) (below0 (edge g i j)) (≤ℤ-refl (lin g i))
+      there (lin g i) (negatives (row g i (neighbours g i))) (when (x j) (edge g i j)) (lin g i) (Σ< (g .n) (λ k. when (x k) (edge g i k))) (below0 (edge g i j)) (≤ℤ-refl (lin g i))
       (subst (λ (z : ℤ). (negatives (row g i (neighbours g i)) +ℤ when (x j) (edge g i j)) ≤ℤ (z +ℤ below0 (edge g i j))) over-is (own-low x (edge g i) j (neighbours g i) m))
 
   delta-high : (deltaOf (g .n) (lin g) (edge g) x i +ℤ above0 (edge g i j)) ≤ℤ (hi g i +ℤ when (x j) (edge g i j))
   delta-high =
-      there (lin g i) (sumTo (λ k. when (x k) (edge g i k)) (g .n)) (above0 (edge g i j)) (lin g i) (positives (row g i (neighbours g i))) (when (x j) (edge g i j)) (≤ℤ-refl (lin g i))
+      there (lin g i) (Σ< (g .n) (λ k. when (x k) (edge g i k))) (above0 (edge g i j)) (lin g i) (positives (row g i (neighbours g i))) (when (x j) (edge g i j)) (≤ℤ-refl (lin g i))
       (subst (λ (z : ℤ). (z +ℤ above0 (edge g i j)) ≤ℤ (positives (row g i (neighbours g i)) +ℤ when (x j) (edge g i j))) over-is (own-high x (edge g i) j (neighbours g i) m))
 
 -- ---- so the choice is a best one

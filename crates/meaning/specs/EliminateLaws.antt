@@ -3,20 +3,19 @@ use mathlib.Core.Path.{_≡_, refl, sym, ap, ap₂, _∙_, subst}
 use mathlib.Core.Bool.{Bool, true, false, cond, not}
 use mathlib.Core.List.{List, [], _∷_, map}
 use mathlib.Core.Logic.{_≢_}
-use Prim.Native.Nat.{ℕ, zero, suc, _+_, _*_, _/_, _%_, _<_, _≤_}
+use Prim.Native.Nat.{ℕ, zero, suc, _+_, _*_, _/_, _%_, _<_}
 use native.Mathlib.Omega.{arith}
-use native.Mathlib.Nat.{not-suc-le-zero}
 use native.Mathlib.Decide.{ℕ-discrete}
 use lib.Dec.{T, eqb}
-use lib.ListN.{length, getD, set, length-set}
-use lib.IntN.{ℤ, pos, negsuc, _+ℤ_, _-ℤ_, negℤ, +ℤ-assoc, +ℤ-idl, +ℤ-idr, +ℤ-comm}
-use Rattle.whole.specs.Words.{oneIf, odd, from, upto, those, chosen, isZeroZ, below0}
-use Rattle.rules.specs.Graph.{Graph, lin, edge, neighbours, row, addConstant, addLinear, addEdge, clear, dropTo}
+use lib.ListN.{length-set}
+use lib.IntN.{ℤ, pos, negsuc, _+ℤ_, +ℤ-assoc, +ℤ-idl, +ℤ-idr}
+use Rattle.whole.specs.Words.{oneIf, odd, from, upto, those, chosen, isZeroZ}
+use Rattle.rules.specs.Graph.{Graph, lin, edge, neighbours, dropTo}
 use Rattle.rules.specs.Eliminate.{absorb, delta}
-use Rattle.meaning.specs.Cost.{when, when-zero, sumTo, deltaOf}
-use Rattle.meaning.specs.CostLaws.{cost, Shaped, drop-cost, clear-length, clear-zero, clear-other}
+use Rattle.whole.specs.Sum.{Σ<}
+use Rattle.meaning.specs.Cost.{when, when-zero, deltaOf}
+use Rattle.meaning.specs.CostLaws.{cost, Shaped, clear-length, clear-zero, clear-other}
 use Rattle.meaning.specs.AbsorbLaws.{none-of, one-of, two-of}
-use Rattle.meaning.specs.Linear.{at, nil, _⊕_, _⊝_, solve}
 
 -- the mask of some decisions' values
 unfoldable pub maskAt : (ℕ → Bool) → List ℕ → ℕ
@@ -61,8 +60,8 @@ over-from F k (suc c) =
     shift : suc k + c ≡ k + suc c
     shift = omega arith
 
-pub over-upto : (F : ℕ → ℤ) (n : ℕ) → over F (upto n) ≡ sumTo F n
-unfolding over from sumTo
+pub over-upto : (F : ℕ → ℤ) (n : ℕ) → over F (upto n) ≡ Σ< n F
+unfolding over from Σ<
 over-upto F zero = refl
 over-upto F (suc n) = over-from F 0 n ∙ ap₂ (λ (a b : ℤ). a +ℤ b) (over-upto F n) (ap F zero-plus)
   where
@@ -85,7 +84,7 @@ over-those F w h (j ∷ js) = go (isZeroZ (w j)) refl (over-those F w h js)
     go false e r = ap (λ (z : ℤ). F j +ℤ z) r
 
 -- a sum over i's neighbours is the sum over all
-pub over-nbrs : (g : Graph) (i : ℕ) (F : ℕ → ℤ) → ((k : ℕ) → edge g i k ≡ pos 0 → F k ≡ pos 0) → over F (neighbours g i) ≡ sumTo F (g .n)
+pub over-nbrs : (g : Graph) (i : ℕ) (F : ℕ → ℤ) → ((k : ℕ) → edge g i k ≡ pos 0 → F k ≡ pos 0) → over F (neighbours g i) ≡ Σ< (g .n) F
 unfolding neighbours
 over-nbrs g i F h = over-those F (edge g i) h (upto (g .n)) ∙ over-upto F (g .n)
 

@@ -1,25 +1,24 @@
 -- What the search for a block returns: different active decisions, 2 to 8 of them, with at most two outside neighbours. So the laws of BlockCost hold of it.
 -- Assumes nothing.
-use mathlib.Core.Path.{_≡_, refl, sym, ap, ap₂, _∙_, subst}
-use mathlib.Core.Bool.{Bool, true, false, cond, not, _&&_, _||_}
+use mathlib.Core.Path.{_≡_, refl, sym, ap, _∙_, subst}
+use mathlib.Core.Bool.{Bool, true, false, cond, not, _&&_}
 use mathlib.Core.List.{List, [], _∷_, _++_}
-use Prim.Native.Nat.{ℕ, zero, suc, _+_, _<_, _≤_}
+use Prim.Native.Nat.{ℕ, _<_, _≤_}
 use native.Mathlib.Omega.{arith}
-use lib.Dec.{leb, eqb}
+use lib.Dec.{leb}
 use lib.ListN.{length}
-use lib.IntN.{_+ℤ_}
 use lib.Signed.{_≤ℤ_}
 use borrow.Author.Tests.{leb-true}
-use Rattle.whole.specs.Words.{isZeroZ, upto, mem, those, some}
+use Rattle.whole.specs.Words.{isZeroZ, upto, mem, some}
 use Rattle.rules.specs.Graph.{Graph, edge, active, actives, neighbours}
 use Rattle.meaning.specs.CostLaws.{cost, Shaped}
-use Rattle.rules.specs.SmallBlock.{component, isCut, Block, none, members, small, among, orElse, overCuts, overRemoved, search, findBlock, boundary, inner, blockTable, bestMask, eliminateBlock}
+use Rattle.rules.specs.SmallBlock.{component, isCut, Block, none, members, small, among, orElse, overCuts, overRemoved, search, findBlock, boundary, bestMask, eliminateBlock}
 use Rattle.meaning.specs.EliminateLaws.{maskAt}
 use Rattle.whole.specs.Pigeon.{Apart}
-use Rattle.whole.specs.Tests.{cases, clash, refuse, on-not, off-not, and-true, or-true}
-use Rattle.whole.specs.Members.{in-cons, in-head, in-tail, in-left, in-right, in-append, out-append, in-those, upto-in, few, apart-below}
-use Rattle.meaning.specs.Growth.{Closed, Grown, component-grown, in-nbrs, to-nbrs, network}
-use Rattle.meaning.specs.BlockCost.{boundary-apart, boundary-outside, put, block-cost, block-plan, block-least}
+use Rattle.whole.specs.Tests.{clash, refuse, on-not, off-not, and-true, or-true}
+use Rattle.whole.specs.Members.{in-cons, in-head, in-tail, in-left, in-those, upto-in, few, apart-below}
+use Rattle.meaning.specs.Growth.{Grown, component-grown, to-nbrs, network}
+use Rattle.meaning.specs.BlockCost.{boundary-apart, put, block-plan, block-least}
 
 -- an edge leads to an active decision only
 abbrev pub Tidy : Graph → Type 0
@@ -187,11 +186,6 @@ module _ (g : Graph) (b : List ℕ) (s : Shaped g) (e : findBlock g ≡ members 
     where
       nobody : (k : ℕ) {P : Type 0} → mem k [] ≡ true → P
       nobody k h = clash h refl
-
-  -- the reduced cost and the members' own cost, against the old cost and the table
-  pub found-cost : (x : ℕ → Bool)
-      → cost (eliminateBlock b g) x +ℤ inner g (boundary g b) (maskAt x (boundary g b)) b (maskAt x b) ≡ cost g x +ℤ blockTable g b (maskAt x (boundary g b))
-  found-cost = block-cost g b s (found-block .apart) (found-block .narrow)
 
   -- demand 3 of a block step: the reduced cost is a cost of the graph before, and no plan costs less than its reduced cost
   pub found-plan : (x : ℕ → Bool) → cost (eliminateBlock b g) x ≡ cost g (put b (bestMask g b (maskAt x (boundary g b))) x)

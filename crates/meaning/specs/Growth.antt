@@ -1,22 +1,20 @@
 -- Growing a component: with c and the removed one set aside, `component` gives the smallest set that holds its seed and every neighbour, not set aside,
 -- of what it holds. So its outside neighbours are among those set aside, and what two components share they share whole.
 -- Assumes nothing.
-use mathlib.Core.Path.{_≡_, refl, sym, ap, ap₂, _∙_, subst}
-use mathlib.Core.Bool.{Bool, true, false, cond, not, _&&_, _||_}
+use mathlib.Core.Path.{_≡_, refl, sym, ap, _∙_, subst}
+use mathlib.Core.Bool.{Bool, true, false, not, _&&_}
 use mathlib.Core.List.{List, [], _∷_, _++_, append-assoc, append-nil}
-use mathlib.Core.Logic.{_≢_}
 use Prim.Native.Nat.{ℕ, zero, suc, _+_, _<_, _≤_}
 use native.Mathlib.Omega.{arith}
 use lib.ListN.{length, length-append}
-use lib.IntN.{ℤ, pos}
 use borrow.Author.Tests.{ne-eqb}
 use Rattle.whole.specs.Words.{isZeroZ, upto, mem, those, some}
 use Rattle.rules.specs.Graph.{Graph, edge, neighbours}
 use Rattle.meaning.specs.CostLaws.{Shaped}
 use Rattle.rules.specs.SmallBlock.{fresh, grow, component, besides, isCut}
 use Rattle.whole.specs.Pigeon.{Apart, none, one, pigeon}
-use Rattle.whole.specs.Tests.{or-none, or-left, or-right, cases, clash, refuse, not-off, not-on, on-not, off-not, same-test}
-use Rattle.whole.specs.Members.{in-cons, in-head, in-tail, in-append, in-left, in-right, out-append, out-both, in-those, to-those, in-upto, upto-in, some-true, some-false, some-none, apart-join, apart-those, apart-upto, apart-below}
+use Rattle.whole.specs.Tests.{or-none, or-left, cases, clash, refuse, not-off, not-on, on-not, off-not, same-test}
+use Rattle.whole.specs.Members.{in-cons, in-head, in-append, in-left, in-right, out-append, out-both, in-those, to-those, in-upto, upto-in, some-false, some-none, apart-join, apart-those, apart-upto, apart-below}
 
 -- n decisions and their neighbours: different decisions below n, none its own, each the other's
 pub record Network (n : ℕ) (near : ℕ → List ℕ) : Type 0 where

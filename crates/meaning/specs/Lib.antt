@@ -1,10 +1,9 @@
 pub mod Cost
-pub mod Linear
 pub mod CostLaws
 pub mod AbsorbLaws
 pub mod EliminateLaws
-pub mod OrderZ
 pub mod ReduceLaws
+pub mod ContractLaws
 pub mod DegreeThreeLaws
 pub mod DominantLaws
 pub mod RunLaws

@@ -1,29 +1,25 @@
 -- Edges join active decisions only: kept by the updates and by eliminating a block; with it the search for a block is well founded (`neat-network`, `neat-tidy`).
 -- Assumes nothing.
-use mathlib.Core.Path.{_≡_, refl, sym, ap, ap₂, _∙_, subst}
-use mathlib.Core.Bool.{Bool, true, false, cond, not, _&&_, _||_}
-use mathlib.Core.List.{List, [], _∷_, _++_}
+use mathlib.Core.Path.{_≡_, refl, sym, ap, _∙_, subst}
+use mathlib.Core.Bool.{true, false, not, _&&_}
+use mathlib.Core.List.{List, [], _∷_}
 use mathlib.Core.Logic.{_≢_}
 use Prim.Native.Nat.{ℕ, zero, suc, _+_, _*_, _<_, _≤_}
 use native.Mathlib.Omega.{arith}
 use native.Mathlib.Decide.{ℕ-discrete}
 use lib.Dec.{eqb}
-use lib.ListN.{length, getD, set}
+use lib.ListN.{getD, set}
 use lib.Seq.{getD-set-other}
-use lib.IntN.{ℤ, pos, _+ℤ_, _-ℤ_}
-use Rattle.whole.specs.Words.{isZeroZ, upto, mem, those, some}
-use Rattle.rules.specs.Graph.{Graph, lin, edge, active, neighbours, addConstant, addLinear, addEdge, clear, dropTo}
-use Rattle.rules.specs.Eliminate.{absorb}
-use Rattle.rules.specs.SmallBlock.{boundary, dropAll, eliminateBlock, blockTable, findBlock, members}
+use lib.IntN.{ℤ, pos, _+ℤ_}
+use Rattle.whole.specs.Words.{isZeroZ, upto, mem, some}
+use Rattle.rules.specs.Graph.{Graph, edge, active, neighbours, addConstant, addLinear, addEdge, clear, dropTo}
+use Rattle.rules.specs.SmallBlock.{boundary}
 use Rattle.meaning.specs.CostLaws.{Shaped, clear-zero}
-use Rattle.meaning.specs.AbsorbLaws.{shaped-base, shaped-lin, shaped-edge}
-use Rattle.meaning.specs.EliminateLaws.{shaped-drop, Pair, empty, single, double}
 use Rattle.whole.specs.Pigeon.{Apart, none, one}
-use Rattle.whole.specs.Tests.{cases, clash, refuse, off-not, and-true}
-use Rattle.whole.specs.Members.{in-cons, in-head, in-tail, in-those, to-those, in-upto, upto-in, out-cons, apart-head, apart-tail, apart-below, apart-those, apart-upto}
+use Rattle.whole.specs.Tests.{clash, refuse, off-not, and-true}
+use Rattle.whole.specs.Members.{in-those, upto-in, apart-below, apart-those, apart-upto}
 use Rattle.meaning.specs.Growth.{Network, in-nbrs, to-nbrs}
-use Rattle.meaning.specs.BlockCost.{boundary-apart, boundary-outside, pair-of, drop-all-n, drop-all-shaped}
-use Rattle.meaning.specs.Found.{Tidy, some-witness, SmallBlock, found-block}
+use Rattle.meaning.specs.Found.{Tidy, some-witness}
 
 abbrev pub Live : Graph → ℕ → Type 0
 Live g i = (i < g .n) × (active g i ≡ true)
@@ -120,28 +116,6 @@ neat-drop t i g s w li = record {
         let few : g .n ≤ 64 = s .few in
         clear-zero i (g .edges) q (omega (arith, li)) (omega (arith, lq)) (s .edges-long) (g .n) few lq
 
--- ---- kept by a block's elimination
-pub neat-drop-all : (b : List ℕ) (g : Graph) → Shaped g → Neat g → Apart (g .n) b → Neat (dropAll b g)
-unfolding dropAll dropTo
-neat-drop-all [] g s w a = w
-neat-drop-all (i ∷ is) g s w a = neat-drop-all is (dropTo 3 i g) (shaped-drop 3 i g s (apart-head a)) (neat-drop 3 i g s w (apart-head a)) (apart-tail a)
-
-pub live-drop-all : (b : List ℕ) (g : Graph) (k : ℕ) → mem k b ≡ false → Live g k → Live (dropAll b g) k
-unfolding dropAll
-live-drop-all [] g k m l = l
-live-drop-all (i ∷ is) g k m l = let p = out-cons k i is m in live-drop-all is (dropTo 3 i g) k (p .1) (live-drop 3 i k g (p .0) l)
-
-pub absorb-keeps : (t : ℕ → ℤ) (ns : List ℕ) (g : Graph) → Shaped g → Neat g → Pair (g .n) ns → ((k : ℕ) → mem k ns ≡ true → Live g k) → Shaped (absorb t ns g) × Neat (absorb t ns g)
-unfolding absorb addConstant addLinear
-absorb-keeps t [] g s w empty h = (shaped-base (t 0) g s, neat-base (t 0) g w)
-absorb-keeps t (j ∷ []) g s w (single lj) h =
-    (shaped-lin j (t 1 -ℤ t 0) (addConstant (t 0) g) (shaped-base (t 0) g s), neat-lin j (t 1 -ℤ t 0) (addConstant (t 0) g) (neat-base (t 0) g w))
-absorb-keeps t (j ∷ k ∷ []) g s w (double lj lk d) h =
-    let g₁ : Graph = addLinear k (t 2 -ℤ t 0) (addLinear j (t 1 -ℤ t 0) (addConstant (t 0) g)) in
-    let s₁ : Shaped g₁ = shaped-lin k (t 2 -ℤ t 0) (addLinear j (t 1 -ℤ t 0) (addConstant (t 0) g)) (shaped-lin j (t 1 -ℤ t 0) (addConstant (t 0) g) (shaped-base (t 0) g s)) in
-    let w₁ : Neat g₁ = neat-lin k (t 2 -ℤ t 0) (addLinear j (t 1 -ℤ t 0) (addConstant (t 0) g)) (neat-lin j (t 1 -ℤ t 0) (addConstant (t 0) g) (neat-base (t 0) g w)) in
-    (shaped-edge g₁ j k (t 3 -ℤ t 1 -ℤ t 2 +ℤ t 0) s₁ lj lk d, neat-edge j k (t 3 -ℤ t 1 -ℤ t 2 +ℤ t 0) g₁ s₁ w₁ (h j (in-head j (k ∷ []))) (h k (in-tail k j (k ∷ []) (in-head k []))))
-
 -- an outside neighbour is active
 pub boundary-live : (g : Graph) (b : List ℕ) → Shaped g → Neat g → Apart (g .n) b → (k : ℕ) → mem k (boundary g b) ≡ true → Live g k
 unfolding boundary
@@ -153,11 +127,3 @@ boundary-live g b s w a k h =
   where
     low : (j : ℕ) → j < g .n → j < 64
     low j b = omega (arith, s .few)
-
-pub block-keeps : (g : Graph) (b : List ℕ) → Shaped g → Neat g → findBlock g ≡ members b → Shaped (eliminateBlock b g) × Neat (eliminateBlock b g)
-unfolding eliminateBlock
-block-keeps g b s w e =
-    let f : SmallBlock g b = found-block g b s e in
-    absorb-keeps (blockTable g b) (boundary g b) (dropAll b g) (drop-all-shaped b g s (f .apart)) (neat-drop-all b g s w (f .apart))
-    (subst (λ (n : ℕ). Pair n (boundary g b)) (sym (drop-all-n b g)) (pair-of (boundary-apart g b) (f .narrow)))
-    (λ k m. live-drop-all b g k (boundary-outside g b k m) (boundary-live g b s w (f .apart) k m))

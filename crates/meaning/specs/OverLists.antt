@@ -1,18 +1,18 @@
 -- Sums over lists of decisions.
 -- Assumes nothing.
-use mathlib.Core.Path.{_≡_, refl, sym, ap, ap₂, _∙_, subst}
+use mathlib.Core.Path.{_≡_, refl, sym, ap, ap₂, _∙_}
 use mathlib.Core.Bool.{Bool, true, false, cond}
 use mathlib.Core.List.{List, [], _∷_, _++_}
-use mathlib.Core.Logic.{_≢_}
 use Prim.Native.Nat.{ℕ, _<_}
 use lib.Dec.{eqb}
 use lib.IntN.{ℤ, pos, _+ℤ_, +ℤ-idl, +ℤ-assoc}
-use borrow.Author.Tests.{eqb-false, eq-eqb, ne-eqb}
+use borrow.Author.Tests.{eqb-false}
 use Rattle.whole.specs.Words.{mem}
 use Rattle.whole.specs.Tests.{cases}
 use Rattle.whole.specs.Pigeon.{Apart, none, one}
 use Rattle.whole.specs.Members.{in-head, in-tail, out-of-cons, differ}
-use Rattle.meaning.specs.Cost.{sumTo, sum-zero, sum-point}
+use Rattle.whole.specs.Sum.{Σ<, but, but-other, Σ-split}
+use Rattle.meaning.specs.Cost.{sum-zero}
 use Rattle.meaning.specs.EliminateLaws.{over}
 
 pub over-append : (F : ℕ → ℤ) (xs ys : List ℕ) → over F (xs ++ ys) ≡ over F xs +ℤ over F ys
@@ -25,26 +25,14 @@ unfolding over
 over-ext F G [] h = refl
 over-ext F G (x ∷ xs) h = ap₂ (λ (a b : ℤ). a +ℤ b) (h x (in-head x xs)) (over-ext F G xs (λ k m. h k (in-tail k x xs m)))
 
--- F, and 0 at j
-abbrev spare : (ℕ → ℤ) → ℕ → ℕ → ℤ
-spare F j k = cond (eqb k j) (pos 0) (F k)
-
-spare-other : (F : ℕ → ℤ) (j k : ℕ) → k ≢ j → spare F j k ≡ F k
-spare-other F j k d = ap (λ (b : Bool). cond b (pos 0) (F k)) (ne-eqb k j d)
-
-spare-self : (F : ℕ → ℤ) (j : ℕ) → spare F j j ≡ pos 0
-spare-self F j = ap (λ (b : Bool). cond b (pos 0) (F j)) (eq-eqb j j refl)
-
 -- the sum over all is the sum over different decisions, where every other one has 0
-pub over-all : (F : ℕ → ℤ) (n : ℕ) {xs : List ℕ} → Apart n xs → ((j : ℕ) → j < n → mem j xs ≡ false → F j ≡ pos 0) → over F xs ≡ sumTo F n
+pub over-all : (F : ℕ → ℤ) (n : ℕ) {xs : List ℕ} → Apart n xs → ((j : ℕ) → j < n → mem j xs ≡ false → F j ≡ pos 0) → over F xs ≡ Σ< n F
 unfolding over mem
 over-all F n none h = sym (sum-zero F n (λ j l. h j l refl))
 over-all F n (one {x = x} {xs = xs} l m a) h =
     ap (λ (z : ℤ). F x +ℤ z)
-    (over-ext F (spare F x) xs (λ k t. sym (spare-other F x k (differ xs t m)))
-    ∙ over-all (spare F x) n a (λ j b t. cases (eqb j x)
+    (over-ext F (but x F) xs (λ k t. sym (but-other x F k (differ xs t m)))
+    ∙ over-all (but x F) n a (λ j b t. cases (eqb j x)
     (λ e. ap (λ (c : Bool). cond c (pos 0) (F j)) e)
-    (λ e. spare-other F x j (eqb-false j x e) ∙ h j b (out-of-cons j x xs (eqb-false j x e) t))))
-    ∙ lib.IntN.+ℤ-comm (F x) (sumTo (spare F x) n)
-    ∙ sym (sum-point (spare F x) F x (F x) n l (λ i b d. sym (spare-other F x i d))
-    (sym (ap (λ (z : ℤ). z +ℤ F x) (spare-self F x) ∙ +ℤ-idl (F x))))
+    (λ e. but-other x F j (eqb-false j x e) ∙ h j b (out-of-cons j x xs (eqb-false j x e) t))))
+    ∙ sym (Σ-split n x F l)

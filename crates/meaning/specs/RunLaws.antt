@@ -1,14 +1,13 @@
 -- Laws of the run that need nothing of the reductions: each thing due uses one unit, and a run that is cut short has used them all.
 -- Assumes nothing.
 use mathlib.Core.Path.{_≡_, refl, sym, ap, _∙_, subst}
-use mathlib.Core.Bool.{Bool, true, false, cond}
+use mathlib.Core.Bool.{true, false, cond}
 use mathlib.Core.List.{List, [], _∷_, _++_, append-assoc, append-nil}
 use native.Mathlib.Nat.{not-suc-le-zero, le-of-suc-le-suc}
 use Rattle.rules.specs.Eliminate.{Step}
 use Prim.Native.Nat.{ℕ, zero, suc, _+_, _≤_}
 use native.Mathlib.Omega.{arith}
 use lib.Dec.{T}
-use Rattle.rules.specs.Graph.{Graph}
 use Rattle.rules.specs.SmallBlock.{Block, none, members, findBlock}
 use Rattle.rules.specs.Outcome.{units}
 use Rattle.rules.specs.Run.{State, Way, inactive, low, into, three, failed, idle, way, reduced, skipped, go, takeFront, blocked, Next, over, due, dueBlock, dueAt, next, Ended, onward, run}

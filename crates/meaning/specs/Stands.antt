@@ -1,29 +1,29 @@
 -- What every graph of a run is (`Fine`), and that each reduction keeps it; with it, what each reduction leaves of the states.
 -- Assumes nothing.
-use mathlib.Core.Path.{_≡_, refl, sym, ap, ap₂, _∙_, subst}
-use mathlib.Core.Bool.{Bool, true, false, cond, not, _&&_}
-use mathlib.Core.List.{List, [], _∷_, _++_}
+use mathlib.Core.Path.{_≡_, refl, sym, ap, _∙_, subst}
+use mathlib.Core.Bool.{Bool, true, false, cond, not}
+use mathlib.Core.List.{List, [], _∷_}
 use mathlib.Core.Logic.{_≢_}
-use Prim.Native.Nat.{ℕ, zero, suc, _+_, _*_, _<_, _≤_}
+use Prim.Native.Nat.{ℕ, zero, suc, _<_}
 use native.Mathlib.Omega.{arith}
 use lib.Dec.{eqb}
-use lib.ListN.{length, getD, set}
+use lib.ListN.{getD, set}
 use lib.Seq.{getD-set-other, getD-set-same}
 use lib.IntN.{ℤ, pos, _+ℤ_, _-ℤ_, negℤ}
-use borrow.Author.Tests.{eqb-true, eqb-false, eq-eqb, ne-eqb}
-use Rattle.whole.specs.Words.{isZeroZ, upto, mem, those}
+use borrow.Author.Tests.{eqb-true, eqb-false}
+use Rattle.whole.specs.Words.{isZeroZ, mem}
 use Rattle.whole.specs.Pigeon.{Apart, none, one}
 use Rattle.whole.specs.Tests.{cases, clash, refuse, on-not, off-not}
-use Rattle.whole.specs.Members.{in-head, in-tail, differ, out-cons, apart-head, apart-new, apart-tail, apart-those, apart-upto}
+use Rattle.whole.specs.Members.{in-head, in-tail, out-cons, apart-those, apart-upto}
 use Rattle.rules.specs.Graph.{Graph, lin, edge, active, neighbours, addConstant, addLinear, addEdge, dropTo}
 use Rattle.rules.specs.Fixing.{spread, fix}
 use Rattle.rules.specs.Eliminate.{absorb, tee, eliminate}
-use Rattle.rules.specs.DegreeThree.{Pair, pairs, addPairs, absorb3, moebius, eliminate3}
+use Rattle.rules.specs.DegreeThree.{addPairs, absorb3, moebius, eliminate3}
 use Rattle.rules.specs.DominantEdge.{positive, turn, move, contract}
 use Rattle.rules.specs.SmallBlock.{dropAll, boundary, blockTable, eliminateBlock, findBlock, members}
 use Rattle.meaning.specs.CostLaws.{Shaped}
 use Rattle.meaning.specs.AbsorbLaws.{shaped-base, shaped-lin, shaped-edge}
-use Rattle.meaning.specs.EliminateLaws as few
+use Rattle.meaning.specs.EliminateLaws.{zero-of, shaped-drop, Pair, empty, single, double}
 use Rattle.meaning.specs.DegreeThreeLaws.{Triple, triple}
 use Rattle.meaning.specs.Growth.{in-nbrs}
 use Rattle.meaning.specs.BlockCost.{Gone, boundary-apart, boundary-outside, pair-of}
@@ -56,8 +56,8 @@ stands-here g f = record { size = refl; states = refl; fine = f }
 pub gone-of : (g : Graph) (i : ℕ) → Fine g → i < g .n → active g i ≡ false → Gone g i
 gone-of g i f li h = record {
   weight = f .light i h;
-  across = λ j lj. few.zero-of (edge g i j) (on-not (isZeroZ (edge g i j)) (refuse (not (isZeroZ (edge g i j))) (λ t. clash (f .neat .ends i j (in64 i li) (in64 j lj) (off (edge g i j) t) .0 .1) h)));
-  down = λ j lj. few.zero-of (edge g j i) (on-not (isZeroZ (edge g j i)) (refuse (not (isZeroZ (edge g j i))) (λ t. clash (f .neat .ends j i (in64 j lj) (in64 i li) (off (edge g j i) t) .1 .1) h)));
+  across = λ j lj. zero-of (edge g i j) (on-not (isZeroZ (edge g i j)) (refuse (not (isZeroZ (edge g i j))) (λ t. clash (f .neat .ends i j (in64 i li) (in64 j lj) (off (edge g i j) t) .0 .1) h)));
+  down = λ j lj. zero-of (edge g j i) (on-not (isZeroZ (edge g j i)) (refuse (not (isZeroZ (edge g j i))) (λ t. clash (f .neat .ends j i (in64 j lj) (in64 i li) (off (edge g j i) t) .1 .1) h)));
 }
   where
     in64 : (k : ℕ) → k < g .n → k < 64
@@ -111,7 +111,7 @@ module _ {n : ℕ} {ss : List ℕ} where
         size = s .size;
         states = ap (λ (l : List ℕ). set l i t) (s .states);
         fine = record {
-          shaped = few.shaped-drop t i g (s .fine .shaped) l;
+          shaped = shaped-drop t i g (s .fine .shaped) l;
           neat = neat-drop t i g (s .fine .shaped) (s .fine .neat) l;
           light = λ k h. cases (eqb k i)
               (λ e. ap (λ (m : ℕ). getD (set (g .linear) i (pos 0)) m (pos 0)) (eqb-true k i e) ∙ none-left g (s .fine .shaped) l)
@@ -152,11 +152,11 @@ module _ {n : ℕ} {ss : List ℕ} where
           let b = h k (in-head k ks) in
           stands-edge j k (negℤ (edge old i k)) (stands-lin k (edge old i k) s b) a b (λ t. eqb-false k j e (sym t))
 
-  pub absorb-stands : (t : ℕ → ℤ) {js : List ℕ} {g : Graph} → Stands n ss g → few.Pair n js → ((k : ℕ) → mem k js ≡ true → Alive n ss k) → Stands n ss (absorb t js g)
+  pub absorb-stands : (t : ℕ → ℤ) {js : List ℕ} {g : Graph} → Stands n ss g → Pair n js → ((k : ℕ) → mem k js ≡ true → Alive n ss k) → Stands n ss (absorb t js g)
   unfolding absorb
-  absorb-stands t s few.empty h = stands-base (t 0) s
-  absorb-stands t s (few.single {j} lj) h = stands-lin j (t 1 -ℤ t 0) (stands-base (t 0) s) (h j (in-head j []))
-  absorb-stands t s (few.double {j} {k} lj lk d) h =
+  absorb-stands t s empty h = stands-base (t 0) s
+  absorb-stands t s (single {j} lj) h = stands-lin j (t 1 -ℤ t 0) (stands-base (t 0) s) (h j (in-head j []))
+  absorb-stands t s (double {j} {k} lj lk d) h =
       let a = h j (in-head j (k ∷ [])) in
       let b = h k (in-tail k j (k ∷ []) (in-head k [])) in
       stands-edge j k (t 3 -ℤ t 1 -ℤ t 2 +ℤ t 0) (stands-lin k (t 2 -ℤ t 0) (stands-lin j (t 1 -ℤ t 0) (stands-base (t 0) s) a) b) a b d
@@ -214,7 +214,7 @@ module _ (g : Graph) (f : Fine g) where
     fix-stands (suc zero) h = spread-stands g i (neighbours g i) (stands-base (lin g i) (dropped 1)) (neighbours-alive 1 i li)
     fix-stands (suc (suc v)) h = absurd (omega arith)
 
-    pub eliminate-stands : few.Pair (g .n) (neighbours g i) → Stands (g .n) (set (g .states) i 3) (eliminate i g)
+    pub eliminate-stands : Pair (g .n) (neighbours g i) → Stands (g .n) (set (g .states) i 3) (eliminate i g)
     unfolding eliminate
     eliminate-stands p = absorb-stands (tee g i) (dropped 3) p (neighbours-alive 3 i li)
 

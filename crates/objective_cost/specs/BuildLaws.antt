@@ -1,6 +1,6 @@
 -- The graph that is built has the objective's cost, and is shaped as every graph of a run is.
 -- Assumes nothing.
-use mathlib.Core.Path.{_≡_, refl, sym, ap, ap₂, _∙_, subst}
+use mathlib.Core.Path.{_≡_, refl, sym, ap, ap₂, _∙_}
 use mathlib.Core.Bool.{Bool, true, false, cond}
 use mathlib.Core.List.{List, [], _∷_, _++_}
 use mathlib.Core.Logic.{_≢_}
@@ -8,29 +8,37 @@ use Prim.Native.Nat.{ℕ, zero, suc, _+_, _*_, _-_, _<_, _≤_}
 use native.Mathlib.Omega.{arith}
 use lib.Dec.{eqb}
 use lib.ListN.{length, getD, replicate, length-append, length-replicate, getD-replicate, List·getD-append}
-use lib.IntN.{ℤ, pos, _+ℤ_, +ℤ-assoc, +ℤ-idl, +ℤ-idr}
+use lib.IntN.{ℤ, pos, _+ℤ_, _*ℤ_, +ℤ-assoc, +ℤ-idl, +ℤ-idr}
 use borrow.Author.Tests.{eqb-true, eqb-false}
+use Rattle.whole.specs.Words.{oneIf}
+use Rattle.whole.specs.Ints.{ints}
 use Rattle.rules.specs.Objective.{Objective}
-use Rattle.rules.specs.Graph.{Graph, lin, edge, addLinear, addEdge, addTerm, addTerms, noEdges, bare, graphOf}
-use Rattle.meaning.specs.Cost.{when, when-zero, sumTo, sum-ext, sum-zero, rowCost, costOf}
+use Rattle.rules.specs.Graph.{Graph, lin, edge, addLinear, addEdge, addTerm, addTerms, noEdges, bare}
+use Rattle.whole.specs.Sum.{Σ<, Σ-cong}
+use Rattle.meaning.specs.Cost.{when, when-zero, sum-zero, rowCost, costOf}
 use Rattle.meaning.specs.CostLaws.{cost, Shaped, lin-cost, edge-cost}
 use Rattle.meaning.specs.AbsorbLaws.{shaped-lin, shaped-edge}
-use Rattle.objective_cost.specs.ObjectiveCost.{linearCost, termsCost, costOfObjective}
+use Rattle.objective_cost.specs.ObjectiveCost.{linearCost, termsCost}
+
+-- ---- a·x for x of 0 or 1
+pub when-product : (b : Bool) (a : ℤ) → when b a ≡ a *ℤ pos (oneIf b)
+when-product true a = simp ints (omega arith)
+when-product false a = simp ints (omega arith)
 
 -- ---- sums taken from the front
-pub sum-front : (f : ℕ → ℤ) (n : ℕ) → sumTo f (suc n) ≡ f 0 +ℤ sumTo (λ i. f (suc i)) n
-unfolding sumTo
+pub sum-front : (f : ℕ → ℤ) (n : ℕ) → Σ< (suc n) f ≡ f 0 +ℤ Σ< n (λ i. f (suc i))
+unfolding Σ<
 sum-front f zero = +ℤ-idl (f 0) ∙ sym (+ℤ-idr (f 0))
-sum-front f (suc n) = ap (λ (z : ℤ). z +ℤ f (suc n)) (sum-front f n) ∙ +ℤ-assoc (f 0) (sumTo (λ i. f (suc i)) n) (f (suc n))
+sum-front f (suc n) = ap (λ (z : ℤ). z +ℤ f (suc n)) (sum-front f n) ∙ +ℤ-assoc (f 0) (Σ< n (λ i. f (suc i))) (f (suc n))
 
-linear-sum : (i : ℕ) (ws : List ℤ) (x : ℕ → Bool) → sumTo (λ k. when (x (i + k)) (getD ws k (pos 0))) (length ws) ≡ linearCost i ws x
-unfolding sumTo linearCost
+linear-sum : (i : ℕ) (ws : List ℤ) (x : ℕ → Bool) → Σ< (length ws) (λ k. when (x (i + k)) (getD ws k (pos 0))) ≡ linearCost i ws x
+unfolding Σ< linearCost
 linear-sum i [] x = refl
 linear-sum i (a ∷ ws) x =
     let here : i + 0 ≡ i = omega arith in
     sum-front (λ k. when (x (i + k)) (getD (a ∷ ws) k (pos 0))) (length ws)
     ∙ ap₂ (λ (u v : ℤ). u +ℤ v) (ap (λ (k : ℕ). when (x k) a) here)
-    (sum-ext (λ k. when (x (suc i + k)) (getD ws k (pos 0))) (λ k. when (x (i + suc k)) (getD ws k (pos 0))) (length ws)
+    (Σ-cong (length ws) (λ k. when (x (i + suc k)) (getD ws k (pos 0))) (λ k. when (x (suc i + k)) (getD ws k (pos 0)))
     (λ k l. let e : i + suc k ≡ suc i + k = omega arith in ap (λ (m : ℕ). when (x m) (getD ws k (pos 0))) e)
     ∙ linear-sum (suc i) ws x)
 
@@ -62,9 +70,9 @@ module _ (o : Objective) (few : o .n ≤ 64) (long : length (o .weights) ≡ o .
   pub bare-cost : (x : ℕ → Bool) → cost (bare o) x ≡ linearCost 0 (o .weights) x
   unfolding costOf bare
   bare-cost x =
-      +ℤ-idl (sumTo (rowCost (lin (bare o)) (edge (bare o)) x) (o .n))
-      ∙ sum-ext (λ k. when (x (0 + k)) (getD (o .weights) k (pos 0))) (rowCost (lin (bare o)) (edge (bare o)) x) (o .n) rows
-      ∙ ap (sumTo (λ k. when (x (0 + k)) (getD (o .weights) k (pos 0)))) (sym long) ∙ linear-sum 0 (o .weights) x
+      +ℤ-idl (Σ< (o .n) (rowCost (lin (bare o)) (edge (bare o)) x))
+      ∙ Σ-cong (o .n) (rowCost (lin (bare o)) (edge (bare o)) x) (λ k. when (x (0 + k)) (getD (o .weights) k (pos 0))) rows
+      ∙ ap (λ (m : ℕ). Σ< m (λ k. when (x (0 + k)) (getD (o .weights) k (pos 0)))) (sym long) ∙ linear-sum 0 (o .weights) x
     where
       rows : (k : ℕ) → k < o .n → rowCost (lin (bare o)) (edge (bare o)) x k ≡ when (x (0 + k)) (getD (o .weights) k (pos 0))
       rows k l =

@@ -1,6 +1,6 @@
 -- Fixing: the cost after it is the cost before it of the plan with the fixings put in.
 -- Assumes nothing.
-use mathlib.Core.Path.{_≡_, refl, sym, ap, ap₂, _∙_, subst}
+use mathlib.Core.Path.{_≡_, refl, sym, ap, ap₂, _∙_}
 use mathlib.Core.Bool.{Bool, true, false, cond}
 use mathlib.Core.List.{List, [], _∷_}
 use mathlib.Core.Logic.{_≢_}
@@ -15,11 +15,12 @@ use Rattle.whole.specs.Words.{mem}
 use Rattle.whole.specs.Ints.{ints, zarith}
 use Rattle.whole.specs.Tests.{clash}
 use Rattle.whole.specs.Members.{out-cons}
-use Rattle.whole.specs.Pigeon.{Apart, none, one}
+use Rattle.whole.specs.Pigeon.{none, one}
 use Rattle.rules.specs.Graph.{Graph, lin, edge, neighbours, addConstant, addLinear, dropTo}
 use Rattle.rules.specs.SmallBlock.{dropAll}
 use Rattle.rules.specs.Fixing.{spread, fix, fixAll}
-use Rattle.meaning.specs.Cost.{when, when-zero, sumTo, sum-ext, deltaOf}
+use Rattle.whole.specs.Sum.{Σ-cong}
+use Rattle.meaning.specs.Cost.{when, when-zero, deltaOf}
 use Rattle.meaning.specs.CostLaws.{cost, Shaped, drop-cost}
 use Rattle.meaning.specs.AbsorbLaws.{shaped-base, shaped-lin}
 use Rattle.meaning.specs.EliminateLaws.{shaped-drop}
@@ -47,7 +48,7 @@ module _ (i : ℕ) (b : Bool) (x : ℕ → Bool) where
 module _ (g : Graph) (i : ℕ) (s : Shaped g) (li : i < g .n) where
   -- what i costs does not hang on i itself
   pub delta-set : (b : Bool) (x : ℕ → Bool) → deltaOf (g .n) (lin g) (edge g) (setAt i b x) i ≡ deltaOf (g .n) (lin g) (edge g) x i
-  delta-set b x = ap (λ (z : ℤ). lin g i +ℤ z) (sum-ext (λ j. when (x j) (edge g i j)) (λ j. when (setAt i b x j) (edge g i j)) (g .n) (λ j l. each j (ℕ-discrete j i)))
+  delta-set b x = ap (λ (z : ℤ). lin g i +ℤ z) (Σ-cong (g .n) (λ j. when (setAt i b x j) (edge g i j)) (λ j. when (x j) (edge g i j)) (λ j l. each j (ℕ-discrete j i)))
     where
       each : (j : ℕ) → Dec (j ≡ i) → when (setAt i b x j) (edge g i j) ≡ when (x j) (edge g i j)
       each j (yes e) =

@@ -7,7 +7,7 @@ use native.Mathlib.Omega.{arith}
 use lib.ListN.{length}
 use lib.IntN.{ℤ, _+ℤ_}
 use Rattle.rules.specs.Objective.{Objective}
-use Rattle.rules.specs.Graph.{Graph, bare, graphOf}
+use Rattle.rules.specs.Graph.{bare, graphOf}
 use Rattle.rules.specs.Fixing.{start}
 use Rattle.meaning.specs.CostLaws.{cost, Shaped}
 use Rattle.accepted.specs.Accept.{Fit}

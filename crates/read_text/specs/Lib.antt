@@ -1,2 +1,4 @@
 pub mod Seen
 pub mod ReadLaws
+pub mod LineLaws
+pub mod Examples

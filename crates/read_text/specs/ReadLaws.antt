@@ -1,17 +1,16 @@
 -- What the readers' definitions say of a text t at a place, as a reader's code meets it there.
 -- Assumes nothing.
-use mathlib.Core.Path.{_≡_, refl, ap, sym, _∙_}
-use mathlib.Core.Bool.{Bool, true, false, cond, _&&_}
+use mathlib.Core.Path.{_≡_, refl}
+use mathlib.Core.Bool.{Bool, true, false, cond}
 use mathlib.Core.List.{List, [], _∷_, _++_}
-use Prim.Native.Nat.{ℕ, zero, suc, _+_, _*_, _-_, _^_, _<_, _≤_}
+use Prim.Native.Nat.{ℕ, suc, _+_, _*_, _-_, _^_, _<_, _≤_}
 use native.Mathlib.Numerals.{add-one}
 use native.Mathlib.Omega.{arith}
-use lib.Dec.{leb, eqb}
-use lib.ListN.{length, getD, take, set, drop, drop-of-length-le}
-use lib.Seq.{drop-cons, take-suc-set}
+use lib.ListN.{length, getD, drop, drop-of-length-le}
+use lib.Seq.{drop-cons}
 use borrow.Author.Tests.{le-leb, lt-leb, lt-ltb, le-ltb, eq-eqb, ne-eqb}
 use lib.IntN.{ℤ, pos, negℤ}
-use Rattle.rules.specs.ReadText.{Read, got, bad, turned, digit, digits, closed, number, number8, number32, weight, then, ender, more, empty, line, Head, head, Terms, terms, Input, refused, given, objectiveOf, last, afterFixings, afterWeights, afterHead, input}
+use Rattle.rules.specs.ReadText.{got, bad, turned, digit, digits, closed, number, number8, number32, weight, then, line, Head, head, Terms, terms, refused, given, objectiveOf, last, afterFixings, afterWeights, afterHead, input}
 
 digit-yes : (b : ℕ) → 48 ≤ b → b ≤ 57 → digit b ≡ true
 digit-yes b h k = rw (le-leb 48 b h, le-leb b 57 k)
@@ -85,50 +84,6 @@ module _ (end : ℕ) (t : List ℕ) where
   pub weight-plain : (at : ℕ) → at < length t → (getD t at 0 ≡ 45 → ⊥) → weight end (drop at t) ≡ turned pos (number (2 ^ 63 - 1) end (drop at t))
   unfolding weight
   weight-plain at h n = rw (drop-cons t at 0 h, ne-eqb (getD t at 0) 45 n)
-
--- a line of numbers: k = n − i are to come
-module _ {A : Type 0} (one : ℕ → List ℕ → Read A) where
-  pub more-step : (xs : List A) (n i : ℕ) (s : List ℕ) → i < n
-      → more one xs (n - i) s ≡ then (one (ender (n - i - 1)) s) (λ x r. more one (xs ++ (x ∷ [])) (n - (i + 1)) r)
-  unfolding more
-  more-step xs n i s h =
-      let e : n - i ≡ suc (n - (i + 1)) = omega arith in
-      let d : n - i - 1 ≡ n - (i + 1) = omega arith in
-      rw (d, e)
-
-  pub more-end : (xs : List A) (n i : ℕ) (s : List ℕ) → n ≤ i → more one xs (n - i) s ≡ got xs s
-  unfolding more
-  more-end xs n i s h = let e : n - i ≡ 0 = omega arith in rw e
-
-  pub line-start : (n : ℕ) (s : List ℕ) → (n ≡ 0 → ⊥) → line one n s ≡ more one [] (n - 0) s
-  unfolding line
-  line-start zero s h = absurd (h refl)
-  line-start (suc k) s h = let e : suc k - 0 ≡ suc k = omega arith in rw e
-
-  pub line-none : (n : ℕ) (s : List ℕ) → n ≡ 0 → line one n s ≡ empty s
-  unfolding line
-  line-none n s h = rw h
-
-module _ {A : Type 0} (t : List ℕ) where
-  pub empty-end : (at : ℕ) → length t ≤ at → empty {A = A} (drop at t) ≡ bad
-  unfolding empty
-  empty-end at h = rw (drop-of-length-le t h)
-
-  pub empty-yes : (at : ℕ) → at < length t → getD t at 0 ≡ 10 → empty {A = A} (drop at t) ≡ got [] (drop (at + 1) t)
-  unfolding empty
-  empty-yes at h e = rw (drop-cons t at 0 h, eq-eqb (getD t at 0) 10 e, add-one)
-
-  pub empty-no : (at : ℕ) → at < length t → (getD t at 0 ≡ 10 → ⊥) → empty {A = A} (drop at t) ≡ bad
-  unfolding empty
-  empty-no at h n = rw (drop-cons t at 0 h, ne-eqb (getD t at 0) 10 n)
-
--- the front of an array gains one
-pub front-more : {A : Type 0} (l : List A) (n : ℕ) (v : A) → n < length l → take (n + 1) (set l n v) ≡ take n l ++ (v ∷ [])
-front-more l n v h = rw (add-one, take-suc-set l n v h)
-
-pub ender-more : (k : ℕ) → (k ≡ 0 → ⊥) → 32 ≡ ender k
-ender-more zero h = absurd (h refl)
-ender-more (suc k) h = refl
 
 -- the terms' lines
 pub terms-step : (is js : List ℕ) (ws : List ℤ) (k m : ℕ) (s : List ℕ) → m < k

@@ -1,7 +1,8 @@
 -- What a reader's answer says, as the definitions have it: a value, and what is left of the text t. Assumes nothing.
+use mathlib.Core.Path.{_≡_}
 use Prim.Native.Nat.{ℕ, _≤_}
 use mathlib.Core.List.{List}
-use lib.ListN.{take, drop}
+use lib.ListN.{length, take, drop}
 use lib.IntN.{ℤ}
 use Rattle.rules.specs.ReadText.{Read, got, bad, Head, Terms, Input, given, refused, objectiveOf}
 use Rattle.read_text.specs.declared.Number.{Number}
@@ -57,7 +58,26 @@ abbrev pub seenTerms : List ℕ → List ℕ → List ℕ → List ℤ → Line 
 seenTerms t is js ws (line.Read next) = got (record { is = is; js = js; ws = ws }) (drop next t)
 seenTerms t is js ws line.Malformed = bad
 
+-- the arrays that the caller lends
+pub record Lent (ps : List ℤ) (fs is js : List ℕ) (ws : List ℤ) : Type 0 where
+  pub weights : length ps ≡ 64
+  pub fixings : length fs ≡ 64
+  pub firsts : length is ≡ 1024
+  pub seconds : length js ≡ 1024
+  pub termWeights : length ws ≡ 1024
+
 -- the arrays hold n weights, n fixing bytes and the terms at their fronts
 abbrev pub seenInput : List ℤ → List ℕ → List ℕ → List ℕ → List ℤ → Parsed → Input
 seenInput ps fs is js ws (parsed.Given h) = given (objectiveOf (headOf h) (take (h .n) ps) (take (h .n) fs) (record { is = take (h .terms) is; js = take (h .terms) js; ws = take (h .terms) ws }))
 seenInput ps fs is js ws (parsed.Refused k) = refused k
+
+-- so many as the arrays hold
+abbrev pub Few : Parsed → Type 0
+Few (parsed.Given h) = (h .n ≤ 64) × (h .terms ≤ 1024)
+Few (parsed.Refused k) = Unit
+
+-- the answer r, with what it left in the arrays, is the input i
+pub record Parses (ps : List ℤ) (fs is js : List ℕ) (ws : List ℤ) (r : Parsed) (i : Input) : Type 0 where
+  pub reads : seenInput ps fs is js ws r ≡ i
+  pub few : Few r
+  pub lent : Lent ps fs is js ws

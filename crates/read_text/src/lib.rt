@@ -4,8 +4,8 @@ ghost use Prim.Native.Nat.{ℕ, _+_, _*_, _<_, _≤_};
 ghost use lib.ListN.{length, take, drop};
 ghost use mathlib.Core.List.{List, [], _∷_};
 ghost use lib.IntN.{ℤ, pos, negℤ};
-ghost use Rattle.rules.specs.ReadText.{Read, got, bad, number, number8, number32, weight, ender, line, empty, head, terms, input};
-ghost use Rattle.read_text.specs.Seen.{seen, seenZ, seen32, seen8, within, seenLine, seenHead, seenTerms, seenInput};
+ghost use Rattle.rules.specs.ReadText.{Read, got, bad, number, number8, number32, weight, ender, line, empty, head, terms, afterWeights, input};
+ghost use Rattle.read_text.specs.Seen.{seen, seenZ, seen32, seen8, within, seenLine, headOf, seenHead, seenTerms, Lent, Parses};
 
 // A number and where to read on.
 pub enum Number {
@@ -129,7 +129,8 @@ fn read_empty(text: &[u8], at: usize) -> Line
 // A line of n weights, into the front of `out`.
 pub fn read_weights(text: &[u8], at: usize, n: usize, out: &mut [i64; 64]) -> Line
     requires { ⌜ (n ≤ 64) × (length (now out) ≡ 64) ⌝ }
-    ensures { λ r. ⌜ seenLine (now (text .entry)) (take n (now (out .exit))) r ≡ line weight n (drop at (now (text .entry))) ⌝ }
+    ensures reads { λ r. ⌜ seenLine (now (text .entry)) (take n (now (out .exit))) r ≡ line weight n (drop at (now (text .entry))) ⌝ }
+    ensures long { λ r. ⌜ length (now (out .exit)) ≡ 64 ⌝ }
 {
     if n == 0 {
         return read_empty(text, at);
@@ -221,7 +222,8 @@ pub fn read_u8(text: &[u8], at: usize, end: u8) -> Byte
 // A line of n fixing bytes, into the front of `out`.
 pub fn read_fixings(text: &[u8], at: usize, n: usize, out: &mut [u8; 64]) -> Line
     requires { ⌜ (n ≤ 64) × (length (now out) ≡ 64) ⌝ }
-    ensures { λ r. ⌜ seenLine (now (text .entry)) (take n (now (out .exit))) r ≡ line number8 n (drop at (now (text .entry))) ⌝ }
+    ensures reads { λ r. ⌜ seenLine (now (text .entry)) (take n (now (out .exit))) r ≡ line number8 n (drop at (now (text .entry))) ⌝ }
+    ensures long { λ r. ⌜ length (now (out .exit)) ≡ 64 ⌝ }
 {
     if n == 0 {
         return read_empty(text, at);
@@ -249,7 +251,8 @@ pub fn read_terms(
     weights: &mut [i64; 1024],
 ) -> Line
     requires { ⌜ (k ≤ 1024) × (length (now firsts) ≡ 1024) × (length (now seconds) ≡ 1024) × (length (now weights) ≡ 1024) ⌝ }
-    ensures { λ r. ⌜ seenTerms (now (text .entry)) (take k (now (firsts .exit))) (take k (now (seconds .exit))) (take k (now (weights .exit))) r ≡ terms [] [] [] k (drop at (now (text .entry))) ⌝ }
+    ensures reads { λ r. ⌜ seenTerms (now (text .entry)) (take k (now (firsts .exit))) (take k (now (seconds .exit))) (take k (now (weights .exit))) r ≡ terms [] [] [] k (drop at (now (text .entry))) ⌝ }
+    ensures long { λ r. ⌜ (length (now (firsts .exit)) ≡ 1024) × (length (now (seconds .exit)) ≡ 1024) × (length (now (weights .exit)) ≡ 1024) ⌝ }
 {
     let mut p = at;
     let mut m = 0;
@@ -278,6 +281,37 @@ pub enum Parsed {
     Refused(u8),
 }
 
+// The lines after the first, into the fronts of the arrays.
+fn read_lists(
+    text: &[u8],
+    at: usize,
+    h: Head,
+    weights: &mut [i64; 64],
+    fixings: &mut [u8; 64],
+    firsts: &mut [u32; 1024],
+    seconds: &mut [u32; 1024],
+    term_weights: &mut [i64; 1024],
+) -> Parsed
+    requires { ⌜ (h .n ≤ 64) × (h .terms ≤ 1024) × Lent (now weights) (now fixings) (now firsts) (now seconds) (now «term_weights») ⌝ }
+    ensures { λ r. ⌜ Parses (now (weights .exit)) (now (fixings .exit)) (now (firsts .exit)) (now (seconds .exit)) (now («term_weights» .exit)) r (afterWeights (headOf h) (line weight (h .n) (drop at (now (text .entry))))) ⌝ }
+{
+    let n = h.n as usize;
+    let Line::Read(a) = read_weights(text, at, n, weights) else {
+        return Parsed::Refused(13);
+    };
+    let Line::Read(b) = read_fixings(text, a, n, fixings) else {
+        return Parsed::Refused(13);
+    };
+    let Line::Read(c) = read_terms(text, b, h.terms as usize, firsts, seconds, term_weights) else {
+        return Parsed::Refused(13);
+    };
+    if c < text.len() {
+        return Parsed::Refused(13);
+    }
+    Parsed::Given(h)
+}
+
+// The objective of a text, into the fronts of the arrays, or the number of its refusal.
 pub fn parse(
     text: &[u8],
     weights: &mut [i64; 64],
@@ -286,34 +320,20 @@ pub fn parse(
     seconds: &mut [u32; 1024],
     term_weights: &mut [i64; 1024],
 ) -> Parsed
-    requires { ⌜ (length (now weights) ≡ 64) × (length (now fixings) ≡ 64) × (length (now firsts) ≡ 1024) × (length (now seconds) ≡ 1024) × (length (now «term_weights») ≡ 1024) ⌝ }
-    ensures { λ r. ⌜ seenInput (now (weights .exit)) (now (fixings .exit)) (now (firsts .exit)) (now (seconds .exit)) (now («term_weights» .exit)) r ≡ input (now (text .entry)) ⌝ }
+    requires { ⌜ Lent (now weights) (now fixings) (now firsts) (now seconds) (now «term_weights») ⌝ }
+    ensures { λ r. ⌜ Parses (now (weights .exit)) (now (fixings .exit)) (now (firsts .exit)) (now (seconds .exit)) (now («term_weights» .exit)) r (input (now (text .entry))) ⌝ }
 {
     if 32768 < text.len() {
         return Parsed::Refused(13);
     }
-    let First::Read(h, a) = read_head(text) else {
+    let First::Read(h, at) = read_head(text) else {
         return Parsed::Refused(13);
     };
-    let n = h.n;
-    let k = h.terms;
-    if 64 < n {
+    if 64 < h.n {
         return Parsed::Refused(1);
     }
-    if 1024 < k {
+    if 1024 < h.terms {
         return Parsed::Refused(13);
     }
-    let Line::Read(b) = read_weights(text, a, n as usize, weights) else {
-        return Parsed::Refused(13);
-    };
-    let Line::Read(c) = read_fixings(text, b, n as usize, fixings) else {
-        return Parsed::Refused(13);
-    };
-    let Line::Read(d) = read_terms(text, c, k as usize, firsts, seconds, term_weights) else {
-        return Parsed::Refused(13);
-    };
-    if d < text.len() {
-        return Parsed::Refused(13);
-    }
-    Parsed::Given(h)
+    read_lists(text, at, h, weights, fixings, firsts, seconds, term_weights)
 }

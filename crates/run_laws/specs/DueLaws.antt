@@ -3,7 +3,7 @@
 use mathlib.Core.Path.{_≡_, refl, sym, ap, _∙_, subst}
 use mathlib.Core.Bool.{Bool, true, false, cond}
 use mathlib.Core.List.{List, [], _∷_}
-use Prim.Native.Nat.{ℕ, zero, suc, _+_, _≤_}
+use Prim.Native.Nat.{ℕ, zero, suc, _+_, _-_, _<_, _≤_}
 use native.Mathlib.Omega.{arith}
 use Rattle.rules.specs.Objective.{Objective, smallBlock}
 use Rattle.rules.specs.SmallBlock.{Block, none, members, findBlock}
@@ -34,10 +34,30 @@ module _ (sw : ℕ) (s : State) where
       from [] h e = block-due t (smallBlock sw) (findBlock (s .graph)) refl refl h e
       from (i ∷ q) h e = let same : go (way sw (s .graph) i) sw i (takeFront q s) ≡ t = cc in subst (Due sw s) same (take h)
 
+-- one turn of the run's recursion
+pub run-over : (b sw : ℕ) (s : State) → next sw s ≡ over → run b sw s ≡ record { state = s; complete = true }
+unfolding run
+run-over zero sw s e = ap (λ (x : Next). onward x s (λ t. record { state = s; complete = false })) e
+run-over (suc b) sw s e = ap (λ (x : Next). onward x s (λ t. run b sw t)) e
+
+pub run-due : (b sw : ℕ) (s t : State) → next sw s ≡ due t → run (suc b) sw s ≡ run b sw t
+unfolding run
+run-due b sw s t e = ap (λ (x : Next). onward x s (λ u. run b sw u)) e
+
+-- the same with u units used of a budget, as a loop that counts them has it
+pub run-turn : (budget u sw : ℕ) (s t : State) → u < budget → next sw s ≡ due t → run (budget - u) sw s ≡ run (budget - (u + 1)) sw t
+run-turn budget u sw s t l e =
+    let one : budget - u ≡ suc (budget - (u + 1)) = omega arith in
+    ap (λ (b : ℕ). run b sw s) one ∙ run-due (budget - (u + 1)) sw s t e
+
+pub run-cut : (sw : ℕ) (s t : State) → next sw s ≡ due t → run 0 sw s ≡ record { state = s; complete = false }
+unfolding run
+run-cut sw s t e = ap (λ (x : Next). onward x s (λ u. record { state = s; complete = false })) e
+
 -- a budget of 1 goes one thing on
 pub run-one : (sw : ℕ) (s t : State) → next sw s ≡ due t → run 1 sw s .state ≡ t
 unfolding run
-run-one sw s t e = ap (λ (x : Next). onward x s (λ u. run 0 sw u) .state) e ∙ stays (next sw t)
+run-one sw s t e = ap (λ (r : Ended). r .state) (run-due 0 sw s t e) ∙ stays (next sw t)
   where
     stays : (x : Next) → onward x t (λ u. record { state = t; complete = false }) .state ≡ t
     stays over = refl

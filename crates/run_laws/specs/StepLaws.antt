@@ -1,12 +1,11 @@
 -- Each step of a run eliminates another decision below n: so there are at most n steps.
 -- Assumes nothing.
 use mathlib.Core.Path.{_≡_, refl, sym, ap, _∙_}
-use mathlib.Core.Bool.{Bool, true, false, cond}
-use mathlib.Core.List.{List, [], _∷_, _++_, map}
+use mathlib.Core.Bool.{true, false}
+use mathlib.Core.List.{List, [], _∷_}
 use mathlib.Core.Logic.{_≢_}
-use Prim.Native.Nat.{ℕ, zero, suc, _+_, _<_, _≤_}
+use Prim.Native.Nat.{ℕ, zero, suc, _<_, _≤_}
 use native.Mathlib.Omega.{arith}
-use native.Mathlib.Decide.{ℕ-discrete}
 use lib.Dec.{eqb}
 use lib.ListN.{length, getD, set, length-map}
 use lib.Seq.{getD-set-other}
@@ -18,7 +17,7 @@ use Rattle.rules.specs.Graph.{Graph}
 use Rattle.rules.specs.Eliminate.{Step}
 use Rattle.rules.specs.SmallBlock.{blockSteps}
 use Rattle.meaning.specs.Stands.{Alive}
-use Rattle.sound_run.specs.Sound.{Taken, Steps, decisions}
+use Rattle.sound_run.specs.Sound.{Steps, decisions}
 
 -- what has been eliminated is not active
 gone-state : (ss : List ℕ) (i : ℕ) → eqb (getD (set ss i 3) i 0) 2 ≡ false
@@ -27,13 +26,13 @@ gone-state (x ∷ ss) zero = refl
 gone-state (x ∷ ss) (suc i) = gone-state ss i
 
 -- one that is active after i has left is another, and was active before
-still-alive : {n : ℕ} (ss : List ℕ) (i k : ℕ) → Alive n (set ss i 3) k → (k ≢ i) × Alive n ss k
+pub still-alive : {n : ℕ} (ss : List ℕ) (i k : ℕ) → Alive n (set ss i 3) k → (k ≢ i) × Alive n ss k
 still-alive {n} ss i k a = (other, (a .0, ap (λ (z : ℕ). eqb z 2) (sym (getD-set-other ss i k 3 0 other)) ∙ a .1))
   where
     other : k ≢ i
     other e = clash (a .1) (ap (λ (j : ℕ). eqb (getD (set ss i 3) j 0) 2) e ∙ gone-state ss i)
 
-steps-alive : (n : ℕ) (ss : List ℕ) (steps : List Step) → Steps n ss steps → (k : ℕ) → mem k (decisions steps) ≡ true → Alive n ss k
+pub steps-alive : (n : ℕ) (ss : List ℕ) (steps : List Step) → Steps n ss steps → (k : ℕ) → mem k (decisions steps) ≡ true → Alive n ss k
 unfolding mem
 steps-alive n ss [] t k m = clash m refl
 steps-alive n ss (s ∷ steps) t k m = in-cons k (s .decision) (decisions steps) m

@@ -8,9 +8,9 @@ use Rattle.whole.specs.Words.{mem}
 
 module _ (near : ℕ → List ℕ) where
   -- a path from s to a decision, from neighbour to neighbour, "that avoids" those set aside
-  pub data Way (aside : List ℕ) (s : ℕ) : ℕ → Type 0 where
-    start : mem s aside ≡ false → Way aside s s
-    onward : {i k : ℕ} → Way aside s i → mem k (near i) ≡ true → mem k aside ≡ false → Way aside s k
+  pub data PathFrom (aside : List ℕ) (s : ℕ) : ℕ → Type 0 where
+    start : mem s aside ≡ false → PathFrom aside s s
+    onward : {i k : ℕ} → PathFrom aside s i → mem k (near i) ≡ true → mem k aside ≡ false → PathFrom aside s k
 
   -- u is a neighbour of c, and not the removed one
   pub record Beside (removed : List ℕ) (c u : ℕ) : Type 0 where
@@ -24,4 +24,4 @@ module _ (near : ℕ → List ℕ) where
     pub two : ℕ
     pub first : Beside removed c one
     pub second : Beside removed c two
-    pub apart : Way (c ∷ removed) one two → ⊥
+    pub apart : PathFrom (c ∷ removed) one two → ⊥

@@ -1,19 +1,17 @@
 -- 01, "Size rule": "At that size the reduced constant and each linear weight stay within ±2^40 and each edge within ±2^41 at the end of every reduction,
 -- because the reduced cost only takes values the original takes."
 -- Assumes nothing.
-use mathlib.Core.Path.{_≡_, sym}
-use mathlib.Core.Bool.{Bool}
+use mathlib.Core.Path.{sym}
 use mathlib.Core.List.{List}
 use Prim.Native.Nat.{ℕ, _≤_, _<_}
 use native.Mathlib.Omega.{arith}
-use lib.IntN.{ℤ, pos}
 use Rattle.whole.specs.Tests.{refuse}
 use Rattle.rules.specs.Objective.{Objective}
-use Rattle.rules.specs.Graph.{Graph, lin, active}
+use Rattle.rules.specs.Graph.{Graph, active}
 use Rattle.rules.specs.Fixing.{start}
 use Rattle.rules.specs.Size.{Within}
 use Rattle.rules.specs.Eliminate.{Step}
-use Rattle.rules.specs.Run.{State, run, begin, ended}
+use Rattle.rules.specs.Run.{run, begin, ended}
 use Rattle.meaning.specs.BlockSteps.{played}
 use Rattle.meaning.specs.Stands.{Fine}
 use Rattle.accepted.specs.Accept.{Fit}

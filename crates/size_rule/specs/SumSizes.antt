@@ -1,16 +1,14 @@
 -- In a graph within the size rule: for each sum that a reduction makes on the way, a bound far below 2^63. 2^40 = 1,099,511,627,776.
 -- Assumes nothing.
-use mathlib.Core.Path.{_≡_, refl, ap}
 use mathlib.Core.Bool.{Bool, true, false, cond, not}
 use mathlib.Core.List.{List, [], _∷_}
-use Prim.Native.Nat.{ℕ, zero, suc, _+_, _*_, _-_, _/_, _^_, _≤_}
+use Prim.Native.Nat.{ℕ, _+_, _*_, _/_, _≤_}
 use native.Mathlib.Omega.{arith}
 use lib.Dec.{eqb}
 use lib.ListN.{length, set, length-map}
 use lib.IntN.{ℤ, pos, negℤ, _+ℤ_, _-ℤ_}
-use Rattle.whole.specs.Words.{odd, isZeroZ, upto, those, chosen}
+use Rattle.whole.specs.Words.{odd, isZeroZ, chosen}
 use Rattle.whole.specs.Parts.{∣_∣, P-neg, N-neg}
-use Rattle.whole.specs.Ints.{ints}
 use Rattle.whole.specs.Cmp.{below0-abs}
 use Rattle.whole.specs.Pigeon.{pigeon}
 use Rattle.whole.specs.Members.{apart-those, apart-upto}

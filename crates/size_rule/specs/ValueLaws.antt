@@ -1,24 +1,22 @@
 -- The size rule: an objective's cost lies in a range of at most 2^40; where a graph's cost does, its numbers are within the rule's bounds.
 -- Assumes nothing.
 use mathlib.Core.Path.{_≡_, refl, sym, ap, ap₂, _∙_, subst}
-use mathlib.Core.Bool.{Bool, true, false, cond, not}
+use mathlib.Core.Bool.{Bool, true, false}
 use mathlib.Core.List.{List, [], _∷_}
-use mathlib.Core.Logic.{_≢_}
-use Prim.Native.Nat.{ℕ, zero, suc, _+_, _*_, _/_, _%_, _<_, _≤_}
+use Prim.Native.Nat.{ℕ, suc, _+_, _*_, _/_, _%_, _<_, _≤_}
 use native.Mathlib.Omega.{arith}
-use native.Mathlib.Decide.{ℕ-discrete, decLt}
+use native.Mathlib.Decide.{decLt}
 use lib.ListN.{length, getD, List·getD-eq-default}
-use lib.IntN.{ℤ, pos, _+ℤ_, _-ℤ_, +ℤ-idl, +ℤ-idr}
-use lib.Signed.{_≤ℤ_}
-use Rattle.whole.specs.Words.{isZeroZ, neg}
-use Rattle.whole.specs.Parts.{P, N, ∣_∣, natAbs-parts}
-use Rattle.whole.specs.Ints.{ints, zarith}
+use lib.IntN.{ℤ, pos, _+ℤ_, +ℤ-idl, +ℤ-idr}
+use Rattle.whole.specs.Words.{isZeroZ}
+use Rattle.whole.specs.Parts.{∣_∣, P, N, natAbs-parts}
+use Rattle.whole.specs.Ints.{ints}
 use Rattle.whole.specs.Tests.{cases}
 use Rattle.rules.specs.Objective.{Objective, weightOf}
 use Rattle.rules.specs.Graph.{Graph, lin, edge, dropTo}
 use Rattle.rules.specs.Fixing.{start}
 use Rattle.rules.specs.Size.{Within}
-use Rattle.meaning.specs.Cost.{when, when-zero, sumTo, sum-zero, sum-point, rowCost, costOf, deltaOf}
+use Rattle.meaning.specs.Cost.{when, sum-zero, sum-point, rowCost, costOf, deltaOf}
 use Rattle.meaning.specs.CostLaws.{cost, Shaped, drop-cost}
 use Rattle.meaning.specs.EliminateLaws.{zero-of}
 use Rattle.meaning.specs.Neat.{Neat}

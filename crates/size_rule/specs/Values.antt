@@ -9,7 +9,6 @@ use lib.IntN.{ℤ, pos}
 use lib.Signed.{_≤ℤ_}
 use Rattle.whole.specs.Words.{neg}
 use Rattle.whole.specs.Parts.{P, N}
-use Rattle.rules.specs.Objective.{Objective}
 use Rattle.rules.specs.Graph.{Graph}
 use Rattle.meaning.specs.CostLaws.{cost}
 

@@ -1,7 +1,7 @@
 -- The cut test by masks.
 -- Assumes nothing.
 use mathlib.Core.Path.{_≡_, refl, sym, ap, ap₂, _∙_, subst}
-use mathlib.Core.Bool.{Bool, true, false, cond, not, _&&_, _||_, and-false}
+use mathlib.Core.Bool.{Bool, true, false, cond, not, _&&_, and-false, or-false}
 use mathlib.Core.List.{List, [], _∷_}
 use mathlib.Core.Logic.{_≢_}
 use Prim.Native.Nat.{ℕ, _^_, _<_, _≤_}
@@ -42,10 +42,6 @@ pub less-removed : (a r s : ℕ) → r < 64 → s ≡ 2 ^ r → these (bitXor a 
 unfolding mem
 less-removed a r s l e = these-less a s ∙ those-ext (λ k. not (bit s k)) (λ u. not (mem u (removedBy r))) (these a)
     (λ k m. ap not (ap (λ (z : ℕ). bit z k) e ∙ bit-single r k ∙ sym (or-false (eqb k r)) ∙ ap (mem k) (sym (removed-is r l))))
-  where
-    or-false : (b : Bool) → (b || false) ≡ b
-    or-false true = refl
-    or-false false = refl
 
 pub all-stay : (a r : ℕ) → 64 ≤ r → these a ≡ those (λ u. not (mem u (removedBy r))) (these a)
 unfolding mem

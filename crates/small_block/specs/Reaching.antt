@@ -52,7 +52,7 @@ reach-begins near net aside u around mask one lu mu h e = record {
     seen : (k : ℕ) → k < 64 → bit (bitOr mask one) k ≡ (mem k aside || eqb k u)
     seen k b = bit-or mask one k ∙ ap₂ (λ (p q : Bool). p || q) (h k b) (single k)
 
-module _ (masks : List ℕ) (net : Network 64 (nearBy masks)) (aside : List ℕ) (u around seen todo left : ℕ) (lu : u < 64) (mu : mem u aside ≡ false)
+module _ (masks : List ℕ) (net : Network 64 (nearBy masks)) {aside : List ℕ} {u around seen todo left : ℕ} (lu : u < 64) (mu : mem u aside ≡ false)
     (out : (k : ℕ) → mem k (these around) ≡ true → mem k aside ≡ false) (w : Reaching (nearBy masks) aside u around seen todo left) where
   grown-u : Grown 64 (nearBy masks) aside (u ∷ []) (component (nearBy masks) aside u)
   grown-u = component-grown 64 (nearBy masks) net aside u lu mu

@@ -1,7 +1,7 @@
 -- The loops of the search by masks: what holds at each turn.
 -- Assumes nothing.
 use mathlib.Core.Path.{_≡_, sym, ap, ap₂, _∙_}
-use mathlib.Core.Bool.{Bool, true, false, cond, not, _&&_, _||_}
+use mathlib.Core.Bool.{Bool, true, false, cond, _&&_, _||_}
 use mathlib.Core.List.{List, [], _∷_, _++_}
 use mathlib.Core.Logic.{_≢_}
 use Prim.Native.Nat.{ℕ, _-_, _^_, _<_, _≤_}
@@ -15,7 +15,7 @@ use Rattle.whole.specs.Words.{bit, mem}
 use Rattle.rules.specs.SmallBlock.{component, isCut, none, members, small, orElse, among, overCuts, overRemoved, search}
 use Rattle.whole.specs.Tests.{clash, refuse, and-true, same-test, or-true, or-left, or-right}
 use Rattle.whole.specs.Members.{in-append, in-left, in-right}
-use Rattle.whole.specs.Masks.{these, bit-or, these-step, these-none, first-in, these-below}
+use Rattle.whole.specs.Masks.{these, bit-or, these-step, these-none, first-in, these-below, rest-less}
 use Rattle.small_block.specs.Held.{blockBy}
 use Rattle.small_block.specs.Going.{GrownAs}
 
@@ -25,13 +25,20 @@ no-block order count e = ap (λ (t : Bool). cond t none (members (take count ord
 pub a-block : (order : List ℕ) (count : ℕ) → count ≢ 0 → blockBy order count ≡ members (take count order)
 a-block order count d = ap (λ (t : Bool). cond t none (members (take count order))) (ne-eqb count 0 d)
 
--- the lowest decision of a mask that is not empty, and the others
-module _ (rest : ℕ) (d : rest ≢ 0) (h : rest < 2 ^ 64) where
+-- a turn of a loop over a mask: its lowest decision, and the others
+pub record Turn (rest : ℕ) : Type 0 where
   pub parts : these rest ≡ trailingZeros 64 rest ∷ these (bitAnd rest (rest - 1))
-  parts = these-step rest (omega arith) h
+  pub below : trailingZeros 64 rest < 64
+  pub less : bitAnd rest (rest - 1) < rest
+  pub smaller : bitAnd rest (rest - 1) < 2 ^ 64
 
-  pub lowest-below : trailingZeros 64 rest < 64
-  lowest-below = these-below rest (trailingZeros 64 rest) (first-in rest d h)
+pub turn : (rest : ℕ) → rest ≢ 0 → rest < 2 ^ 64 → Turn rest
+turn rest d h = record {
+  parts = these-step rest (omega arith) h;
+  below = these-below rest (trailingZeros 64 rest) (first-in rest d h);
+  less = rest-less rest d h;
+  smaller = omega (arith, rest-less rest d h);
+}
 
 -- ---- among the components
 -- the decisions of `rest` are still to be looked at; `past` has been seen
@@ -52,10 +59,10 @@ module _ {near : ℕ → List ℕ} {aside live : List ℕ} {rest seen : ℕ} (w 
         (cond (small (component near aside (trailingZeros 64 rest))) (members (component near aside (trailingZeros 64 rest)))
         (among near aside (w .past ++ component near aside (trailingZeros 64 rest)) (these (bitAnd rest (rest - 1)))))
     unfolding among
-    seek-step = w .leads ∙ ap (among near aside (w .past)) (parts rest d h)
+    seek-step = w .leads ∙ ap (among near aside (w .past)) (turn rest d h .parts)
 
     seen-past : (t : Bool) → bit seen (trailingZeros 64 rest) ≡ t → mem (trailingZeros 64 rest) (w .past) ≡ t
-    seen-past t e = sym (w .marks (trailingZeros 64 rest) (lowest-below rest d h)) ∙ e
+    seen-past t e = sym (w .marks (trailingZeros 64 rest) (turn rest d h .below)) ∙ e
 
     pub seek-skip : bit seen (trailingZeros 64 rest) ≡ true → Seeking near aside live (bitAnd rest (rest - 1)) seen
     seek-skip e = record {
@@ -108,7 +115,7 @@ module _ (near : ℕ → List ℕ) (live removed : List ℕ) (rest : ℕ) where
         (orElse (among near (trailingZeros 64 rest ∷ removed) (trailingZeros 64 rest ∷ removed) live) (overCuts near live removed (these (bitAnd rest (rest - 1)))))
         (overCuts near live removed (these (bitAnd rest (rest - 1))))
     unfolding overCuts
-    cuts-step = ap (overCuts near live removed) (parts rest d h)
+    cuts-step = ap (overCuts near live removed) (turn rest d h .parts)
 
     pub cuts-skip : isCut near removed (trailingZeros 64 rest) ≡ false → overCuts near live removed (these rest) ≡ overCuts near live removed (these (bitAnd rest (rest - 1)))
     cuts-skip e = cuts-step ∙ rw e
@@ -130,7 +137,7 @@ module _ (near : ℕ → List ℕ) (live : List ℕ) (rest : ℕ) where
   module _ (d : rest ≢ 0) (h : rest < 2 ^ 64) where
     removed-step : overRemoved near live (these rest) ≡ orElse (overCuts near live (trailingZeros 64 rest ∷ []) live) (overRemoved near live (these (bitAnd rest (rest - 1))))
     unfolding overRemoved
-    removed-step = ap (overRemoved near live) (parts rest d h)
+    removed-step = ap (overRemoved near live) (turn rest d h .parts)
 
     module _ (order : List ℕ) (count : ℕ) (is : blockBy order count ≡ overCuts near live (trailingZeros 64 rest ∷ []) live) where
       pub removed-found : count ≢ 0 → blockBy order count ≡ overRemoved near live (these rest)

@@ -46,6 +46,11 @@ pub record Boundary (n : ℕ) (edges : List ℤ) (b out : List ℕ) (width : ℕ
   pub size : length (boundary (shape n edges []) b) ≡ width
   pub is : take width out ≡ boundary (shape n edges []) b
 
+below-next : (k c : ℕ) → k ≢ c → ltb k c ≡ ltb k (c + 1)
+below-next k c d = cases (ltb k c)
+    (λ t. t ∙ sym (lt-ltb k (c + 1) (omega (arith, ltb-true k c t))))
+    (λ t. t ∙ sym (le-ltb k (c + 1) (omega (arith, ltb-false k c t))))
+
 -- m marks those below c that pass
 abbrev pub Marks : (ℕ → Bool) → ℕ → ℕ → Type 0
 Marks p c m = (k : ℕ) → k < 64 → bit m k ≡ (ltb k c && p k)
@@ -60,33 +65,14 @@ marks-yes p c m s h e y k b =
     (λ t.
     let q : k ≡ c = eqb-true k c t in
     rw (t, le-ltb k c (omega arith), lt-ltb k (c + 1) (omega arith)) (sym (ap p q ∙ y)))
-    (λ t.
-    let d : k ≢ c = eqb-false k c t in
-    rw t (same d))
-  where
-    or-off : (x : Bool) → (x || false) ≡ x
-    or-off true = refl
-    or-off false = refl
-
-    same : k ≢ c → ((ltb k c && p k) || false) ≡ (ltb k (c + 1) && p k)
-    same d = or-off (ltb k c && p k) ∙ ap (λ (t : Bool). t && p k) (below d)
-      where
-        below : k ≢ c → ltb k c ≡ ltb k (c + 1)
-        below d = cases (ltb k c)
-            (λ t. t ∙ sym (lt-ltb k (c + 1) (omega (arith, ltb-true k c t))))
-            (λ t. t ∙ sym (le-ltb k (c + 1) (omega (arith, ltb-false k c t))))
+    (λ t. rw t (or-false (ltb k c && p k) ∙ ap (λ (z : Bool). z && p k) (below-next k c (eqb-false k c t))))
 
 pub marks-no : (p : ℕ → Bool) (c m : ℕ) → Marks p c m → p c ≡ false → Marks p (c + 1) m
 marks-no p c m h y k b = h k b ∙ cases (eqb k c)
     (λ t.
     let q : k ≡ c = eqb-true k c t in
     rw (le-ltb k c (omega arith), lt-ltb k (c + 1) (omega arith)) (sym (ap p q ∙ y)))
-    (λ t. ap (λ (z : Bool). z && p k) (below (eqb-false k c t)))
-  where
-    below : k ≢ c → ltb k c ≡ ltb k (c + 1)
-    below d = cases (ltb k c)
-        (λ t. t ∙ sym (lt-ltb k (c + 1) (omega (arith, ltb-true k c t))))
-        (λ t. t ∙ sym (le-ltb k (c + 1) (omega (arith, ltb-false k c t))))
+    (λ t. ap (λ (z : Bool). z && p k) (below-next k c (eqb-false k c t)))
 
 -- 0, 1, .. cut in two
 from-split : (k a b : ℕ) → from k (a + b) ≡ from k a ++ from (k + a) b

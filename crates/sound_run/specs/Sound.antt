@@ -1,12 +1,11 @@
 -- The relation of a reduction: from a graph, by steps of growing back, to the graph that is left. It composes, so it holds of a whole run.
 -- Assumes nothing.
-use mathlib.Core.Path.{_≡_, refl, sym, ap, ap₂, _∙_, subst}
-use mathlib.Core.Bool.{Bool, true, false, cond}
+use mathlib.Core.Path.{_≡_, refl, ap, ap₂, _∙_}
+use mathlib.Core.Bool.{Bool, true, cond}
 use mathlib.Core.List.{List, [], _∷_, _++_, map}
 use Prim.Native.Nat.{ℕ, _<_, _≤_, _^_}
 use lib.Dec.{eqb}
-use lib.ListN.{length, getD, set}
-use lib.IntN.{ℤ}
+use lib.ListN.{length, set}
 use lib.Signed.{_≤ℤ_, ≤ℤ-refl}
 use Rattle.whole.specs.Words.{mem, bit}
 use Rattle.whole.specs.Cmp.{≤ℤ-trans}
@@ -14,7 +13,6 @@ use Rattle.rules.specs.Graph.{Graph}
 use Rattle.rules.specs.Eliminate.{Step}
 use Rattle.rules.specs.Record.{ascending}
 use Rattle.meaning.specs.CostLaws.{cost}
-use Rattle.meaning.specs.EliminateLaws.{maskAt}
 use Rattle.meaning.specs.BlockCost.{mask-ext}
 use Rattle.meaning.specs.BlockSteps.{played}
 use Rattle.meaning.specs.Stands.{Fine, Alive, Stands, stands-here, marked}

@@ -1,28 +1,27 @@
 -- Each reduction is sound: eliminate at degree at most 2, degree three not refused, contracting into a dominant neighbour, a block that the search found.
 -- Assumes nothing.
-use mathlib.Core.Path.{_≡_, refl, sym, ap, ap₂, _∙_, subst}
+use mathlib.Core.Path.{_≡_, refl, sym, ap, _∙_}
 use mathlib.Core.Bool.{Bool, true, false, cond, not, _&&_}
-use mathlib.Core.List.{List, [], _∷_, _++_}
+use mathlib.Core.List.{List, [], _∷_}
 use mathlib.Core.Logic.{_≢_}
-use Prim.Native.Nat.{ℕ, zero, suc, _+_, _*_, _<_, _≤_, _^_}
+use Prim.Native.Nat.{ℕ, suc, _+_, _*_, _<_, _≤_, _^_}
 use native.Mathlib.Omega.{arith}
 use lib.Dec.{eqb}
-use lib.ListN.{length, getD, set}
-use lib.IntN.{ℤ, pos}
+use lib.ListN.{length, set}
 use lib.Signed.{_≤ℤ_}
 use Rattle.whole.specs.Words.{isZeroZ, mem, some, all, bit, oneIf}
 use Rattle.whole.specs.Pigeon.{Apart, none, one}
 use Rattle.whole.specs.Tests.{clash}
 use Rattle.whole.specs.Members.{in-head, in-tail, in-cons, out-cons, differ, apart-below}
-use Rattle.rules.specs.Graph.{Graph, edge, active, neighbours, degree}
+use Rattle.rules.specs.Graph.{Graph, edge, neighbours, degree}
 use Rattle.rules.specs.Eliminate.{Step, step, chooses, stepOf, eliminate}
 use Rattle.rules.specs.DegreeThree.{cubic, eliminate3}
 use Rattle.rules.specs.DominantEdge.{positive, dominates, contract, contractStep}
 use Rattle.rules.specs.SmallBlock.{boundary, bestMask, blockSteps, eliminateBlock, findBlock, members}
 use Rattle.rules.specs.Record.{ascending}
-use Rattle.meaning.specs.CostLaws.{cost, Shaped}
+use Rattle.meaning.specs.CostLaws.{cost}
 use Rattle.meaning.specs.EliminateLaws.{maskAt, Pair}
-use Rattle.meaning.specs.ReduceLaws.{ReducedBy, choiceAt, Absorbed, absorbed-reduces, absorbed-never-more, eliminate-absorbed}
+use Rattle.meaning.specs.ReduceLaws.{ReducedBy, Absorbed, absorbed-reduces, absorbed-never-more, eliminate-absorbed}
 use Rattle.meaning.specs.DegreeThreeLaws.{Triple, triple-of, three-absorbed}
 use Rattle.meaning.specs.DominantLaws.{contractChoice, contract-reduces, contract-never-more}
 use Rattle.meaning.specs.BlockCost.{mask-below, boundary-outside, pair-of}

@@ -1,23 +1,21 @@
 -- Every run is sound, at every budget and switch set: by one induction on the budget.
 -- Assumes nothing.
-use mathlib.Core.Path.{_≡_, refl, sym, ap, _∙_}
+use mathlib.Core.Path.{_≡_, refl}
 use mathlib.Core.Bool.{Bool, true, false, cond, not, _&&_}
-use mathlib.Core.List.{List, [], _∷_, _++_}
-use Prim.Native.Nat.{ℕ, zero, suc, _<_, _≤_}
+use mathlib.Core.List.{List, [], _∷_}
+use Prim.Native.Nat.{ℕ, zero, suc, _≤_}
 use lib.Dec.{leb, eqb}
-use lib.ListN.{length}
 use borrow.Author.Tests.{leb-true, eqb-true}
 use Rattle.whole.specs.Words.{mem}
-use Rattle.whole.specs.Tests.{and-true, on-not}
+use Rattle.whole.specs.Tests.{and-true}
 use Rattle.whole.specs.Members.{in-head, in-tail}
 use Rattle.rules.specs.Objective.{lowDegree, degreeThree, dominantEdge, smallBlock}
 use Rattle.rules.specs.Graph.{Graph, active, neighbours, degree}
-use Rattle.rules.specs.Eliminate.{Step}
 use Rattle.rules.specs.DegreeThree.{cubic}
 use Rattle.rules.specs.DominantEdge.{Found, nothing, at, first, dominant, dominates}
 use Rattle.rules.specs.SmallBlock.{Block, none, members, findBlock}
-use Rattle.rules.specs.Run.{State, Way, inactive, low, into, three, failed, idle, orThree, way, reduced, skipped, go, takeFront, blocked, Next, over, due, dueBlock, dueAt, next, Ended, onward, run, begin}
-use Rattle.meaning.specs.Stands.{Fine, Alive}
+use Rattle.rules.specs.Run.{State, Way, inactive, low, into, three, failed, idle, orThree, way, reduced, skipped, go, takeFront, blocked, Next, over, due, dueBlock, dueAt, next, onward, run, begin}
+use Rattle.meaning.specs.Stands.{Fine}
 use Rattle.sound_run.specs.Sound.{Sound, sound-none, sound-then}
 use Rattle.sound_run.specs.SoundReductions.{eliminate-sound, three-sound, contract-sound, block-sound}
 

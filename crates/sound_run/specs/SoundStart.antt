@@ -10,15 +10,15 @@ use lib.Dec.{ltb, eqb}
 use lib.ListN.{length, getD, set, replicate, length-append, length-replicate, getD-replicate, List·getD-append}
 use lib.Seq.{set-at, append-snoc, getD-append-add}
 use lib.IntN.{ℤ, pos}
-use borrow.Author.Tests.{eqb-true, eqb-false, ltb-true, ltb-false}
+use borrow.Author.Tests.{eqb-false, ltb-true, ltb-false}
 use Rattle.whole.specs.Words.{isZeroZ}
 use Rattle.whole.specs.Tests.{clash}
 use Rattle.rules.specs.Objective.{Objective}
-use Rattle.rules.specs.Graph.{Graph, lin, edge, active, addLinear, addEdge, addTerm, addTerms, noEdges, bare, graphOf}
+use Rattle.rules.specs.Graph.{Graph, lin, active, addLinear, addEdge, addTerm, addTerms, noEdges, bare, graphOf}
 use Rattle.rules.specs.Fixing.{fix, fixAll, start}
-use Rattle.rules.specs.Run.{Ended, ended}
+use Rattle.rules.specs.Run.{ended}
 use Rattle.accepted.specs.Accept.{Fit}
-use Rattle.meaning.specs.Stands.{Fine, Alive, Stands, stands-lin, stands-edge, fix-stands}
+use Rattle.meaning.specs.Stands.{Alive, Stands, stands-lin, stands-edge, fix-stands}
 use Rattle.objective_cost.specs.BuildLaws.{IndicesBelow, shaped-bare}
 use Rattle.sound_run.specs.Sound.{Sound}
 use Rattle.sound_run.specs.SoundRun.{run-sound, begin-sound}

@@ -1,5 +1,5 @@
 use native.Mathlib.Omega.{arith}
-use Rattle.read_text.specs.ReadLaws.{ender-more}
+use Rattle.read_text.specs.LineLaws.{ender-more}
 use borrow.Author.Needs.{needs}
 use Rattle.read_text.proofs.end_of.Statement.{statement}
 use Rattle.read_text.proofs.end_of.Tie as tie

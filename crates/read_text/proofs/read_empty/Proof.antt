@@ -1,6 +1,6 @@
 use mathlib.Core.Path.{sym}
 use native.Mathlib.Omega.{arith}
-use Rattle.read_text.specs.ReadLaws.{empty-end, empty-yes, empty-no}
+use Rattle.read_text.specs.LineLaws.{empty-end, empty-yes, empty-no}
 use borrow.Author.Needs.{needs}
 use Rattle.read_text.proofs.read_empty.Statement.{statement}
 use Rattle.read_text.proofs.read_empty.Tie as tie

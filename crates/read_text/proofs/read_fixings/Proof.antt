@@ -1,57 +1,39 @@
 use borrow.Author.Needs.{needs}
-use Prim.Native.Nat.{_≤_, _-_}
-use mathlib.Core.Path.{_≡_, _∙_, subst}
+use Prim.Native.Nat.{_-_}
 use native.Mathlib.Omega.{arith}
-use lib.ListN.{length, take, drop, length-set}
-use Rattle.rules.specs.ReadText.{number8, more, line}
-use Rattle.read_text.specs.ReadLaws.{more-step, more-end, line-start, line-none, front-more}
-use Rattle.read_text.specs.Seen.{seen8}
+use lib.ListN.{drop}
+use Rattle.rules.specs.ReadText.{number8}
+use Rattle.read_text.specs.LineLaws.{line-none, Going, going-start, going-bad, going-on, going-end}
 use Rattle.read_text.proofs.read_fixings.Statement.{statement}
 use Rattle.read_text.proofs.read_fixings.Tie as tie
 
 abbrev Inv-loop : tie.InvT-loop
-Inv-loop text at n out₀ p₀ i₀ out p i = (i ≤ n) × (length out ≡ 64) × (line number8 n (drop at text) ≡ more number8 (take i out) (n - i) (drop p text))
+Inv-loop text at n out₀ p₀ i₀ out p i = Going number8 n at text out i p
 
 abbrev μ-loop : tie.MeasureT-loop
 μ-loop text at n out₀ p₀ i₀ out p i = n - i
 
 returns : tie.Need-returns Inv-loop μ-loop
 returns c =
-    let a = c .before .before .before .args in rw (line-none number8 (a .n) (drop (a .at) (a .text .now)) (c .before .if1 .taken), c .before .if1 .taken) (c .read-empty .ensures .1)
+    let a = c .before .before .before .args in (rw (line-none number8 (a .n) (drop (a .at) (a .text .now)) (c .before .if1 .taken), c .before .if1 .taken) (c .read-empty .ensures .1), c .before .before .before .pre .1)
 
 loop-holds : tie.Need-loop-holds Inv-loop μ-loop
-loop-holds c =
-    let a = c .before .before .args in (omega arith, c .before .before .pre .1, line-start number8 (a .n) (drop (a .at) (a .text .now)) (c .if1 .left))
+loop-holds c = let s = c .before .before in going-start number8 _ _ _ _ (s .pre .1) (c .if1 .left)
 
 returns-2 : tie.Need-returns-2 Inv-loop μ-loop
 returns-2 c =
     let a = c .before .before .before .before .before .before .before .before .args in
     let l = c .before .before .before .before .before .loop in
-    let r = subst (λ w. seen8 (a .text .now) w ≡ number8 (c .before .before .before .end-of .result) (drop (l .p) (a .text .now))) (c .enum-told .given .1) (c .before .before .read-u8 .ensures) in
-    rw (l .inv .2, more-step number8 (take (l .i) (l .out)) (a .n) (l .i) (drop (l .p) (a .text .now)) (omega arith), ← c .before .before .before .end-of .ensures .0, ← r)
+    (going-bad number8 (a .n) (a .at) (a .text .now) (l .inv) (c .before .before .before .end-of .result) (omega arith) (c .before .before .before .end-of .ensures .0) (rw (c .enum-told .given .1) at (c .before .before .read-u8 .ensures)), l .inv .long)
 
 loop-again : tie.Need-loop-again Inv-loop μ-loop
 loop-again c =
     let a = c .before .before .before .before .before .before .before .before .before .args in
     let l = c .before .before .before .before .before .before .loop in
-    let r = subst (λ w. seen8 (a .text .now) w ≡ number8 (c .before .before .before .before .end-of .result) (drop (l .p) (a .text .now))) (c .before .w .given .1) (c .before .before .before .read-u8 .ensures) in (
-      omega arith,
-      length-set (l .out) (l .i) _ ∙ l .inv .1,
-      rw (
-        l .inv .2,
-        more-step number8 (take (l .i) (l .out)) (a .n) (l .i) (drop (l .p) (a .text .now)) (omega arith),
-        ← c .before .before .before .before .end-of .ensures .0,
-        ← r,
-        front-more (l .out) (l .i) (c .before .w .given .0 .0) (omega arith),
-      ),
-    )
+    going-on number8 (a .n) (a .at) (a .text .now) (l .inv) (c .before .before .before .before .end-of .result) (omega arith) (c .before .before .before .before .before .before .before .before .before .pre .0) (c .before .before .before .before .end-of .ensures .0) (c .before .w .given .0 .0) (c .before .w .given .0 .1 .0) (rw (c .before .w .given .1) at (c .before .before .before .read-u8 .ensures))
 
 returns-3 : tie.Need-returns-3 Inv-loop μ-loop
-returns-3 c =
-    let a = c .before .before .before .before .args in
-    let l = c .before .loop in
-    let e : a .n ≡ l .i = omega arith in
-    rw (l .inv .2, more-end number8 (take (l .i) (l .out)) (a .n) (l .i) (drop (l .p) (a .text .now)) (omega arith), e)
+returns-3 c = let a = c .before .before .before .before .args in (going-end number8 (a .n) (a .at) (a .text .now) (c .before .loop .inv) (omega arith), c .before .loop .inv .long)
 
 pub read-fixings-spec : {M : Type 1} → statement M
 read-fixings-spec =

@@ -8,7 +8,8 @@ use mir.Syntax.{w64}
 use mir.Val.{SFits}
 use Rattle.whole.specs.Ints.{rd}
 use Rattle.rules.specs.ReadText.{got, number32, terms}
-use Rattle.read_text.specs.ReadLaws.{terms-step, terms-end, front-more}
+use Rattle.read_text.specs.ReadLaws.{terms-step, terms-end}
+use Rattle.read_text.specs.LineLaws.{front-more}
 use Rattle.read_text.specs.Seen.{seen32, seenZ}
 use Rattle.read_text.proofs.read_terms.Statement.{statement}
 use Rattle.read_text.proofs.read_terms.Tie as tie
@@ -34,19 +35,19 @@ returns : tie.Need-returns Inv-loop μ-loop
 returns c =
     let a = c .before .before .before .before .before .before .args in
     let l = c .before .before .before .before .loop in
-    rw (l .inv .4, terms-step (take (l .m) (l .firsts)) (take (l .m) (l .seconds)) (take (l .m) (l .weights)) (a .k) (l .m) (drop (l .p) (a .text .now)) (omega arith), ← (ap (seen32 (a .text .now)) (sym (c .enum-told .given .1)) ∙ c .before .before .read-u32 .ensures))
+    (rw (l .inv .4, terms-step (take (l .m) (l .firsts)) (take (l .m) (l .seconds)) (take (l .m) (l .weights)) (a .k) (l .m) (drop (l .p) (a .text .now)) (omega arith), ← (ap (seen32 (a .text .now)) (sym (c .enum-told .given .1)) ∙ c .before .before .read-u32 .ensures)), (l .inv .1, l .inv .2, l .inv .3))
 
 returns-2 : tie.Need-returns-2 Inv-loop μ-loop
 returns-2 c =
     let a = c .before .before .before .before .before .before .before .before .before .before .args in
     let l = c .before .before .before .before .before .before .before .before .loop in
-    rw (l .inv .4, terms-step (take (l .m) (l .firsts)) (take (l .m) (l .seconds)) (take (l .m) (l .weights)) (a .k) (l .m) (drop (l .p) (a .text .now)) (omega arith), ← i-read (c .before .before .before), ← (ap (seen32 (a .text .now)) (sym (c .enum-told2 .given .1)) ∙ c .before .before .read-u322 .ensures))
+    (rw (l .inv .4, terms-step (take (l .m) (l .firsts)) (take (l .m) (l .seconds)) (take (l .m) (l .weights)) (a .k) (l .m) (drop (l .p) (a .text .now)) (omega arith), ← i-read (c .before .before .before), ← (ap (seen32 (a .text .now)) (sym (c .enum-told2 .given .1)) ∙ c .before .before .read-u322 .ensures)), (l .inv .1, l .inv .2, l .inv .3))
 
 returns-3 : tie.Need-returns-3 Inv-loop μ-loop
 returns-3 c =
     let a = c .before .before .before .before .before .before .before .before .before .before .before .before .before .before .args in
     let l = c .before .before .before .before .before .before .before .before .before .before .before .before .loop in
-    rw (l .inv .4, terms-step (take (l .m) (l .firsts)) (take (l .m) (l .seconds)) (take (l .m) (l .weights)) (a .k) (l .m) (drop (l .p) (a .text .now)) (omega arith), ← i-read (c .before .before .before .before .before .before .before), ← j-read (c .before .before .before), ← (ap (seenZ (a .text .now)) (sym (c .enum-told3 .given .1)) ∙ c .before .before .read-weight .ensures))
+    (rw (l .inv .4, terms-step (take (l .m) (l .firsts)) (take (l .m) (l .seconds)) (take (l .m) (l .weights)) (a .k) (l .m) (drop (l .p) (a .text .now)) (omega arith), ← i-read (c .before .before .before .before .before .before .before), ← j-read (c .before .before .before), ← (ap (seenZ (a .text .now)) (sym (c .enum-told3 .given .1)) ∙ c .before .before .read-weight .ensures)), (l .inv .1, l .inv .2, l .inv .3))
 
 loop-again : tie.Need-loop-again Inv-loop μ-loop
 loop-again c =
@@ -75,7 +76,7 @@ returns-4 c =
     let a = c .before .before .before .args in
     let l = c .before .loop in
     let e : a .k ≡ l .m = omega arith in
-    rw (l .inv .4, terms-end (take (l .m) (l .firsts)) (take (l .m) (l .seconds)) (take (l .m) (l .weights)) (a .k) (l .m) (drop (l .p) (a .text .now)) (omega arith), e)
+    (rw (l .inv .4, terms-end (take (l .m) (l .firsts)) (take (l .m) (l .seconds)) (take (l .m) (l .weights)) (a .k) (l .m) (drop (l .p) (a .text .now)) (omega arith), e), (l .inv .1, l .inv .2, l .inv .3))
 
 pub read-terms-spec : {M : Type 1} → statement M
 read-terms-spec =

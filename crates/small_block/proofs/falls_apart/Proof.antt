@@ -55,12 +55,12 @@ module _ (c : tie.In-loop Inv-loop μ-loop) where
   aside = s .args .c ∷ removedBy (s .args .removed)
 
   low : (l .loop .todo ≡ 0 → ⊥) → trailingZeros 64 (l .loop .todo) < 64
-  low d = next-low masks (s .pre .0) aside (s .args .u) (s .args .around) (l .loop .seen) (l .loop .todo) (l .loop .left) (s .pre .2) (s .pre .3) (s .pre .4) (l .loop .inv .3) d (l .loop .inv .0) (l .loop .inv .1)
+  low d = next-low masks (s .pre .0) (s .pre .2) (s .pre .3) (s .pre .4) (l .loop .inv .3) d (l .loop .inv .0) (l .loop .inv .1)
 
 returns : tie.Need-returns Inv-loop μ-loop
 returns c =
     let t = c .before in
-    reach-stop (masks t) (s t .pre .0) (aside t) (s t .args .u) (s t .args .around) (l t .loop .seen) (l t .loop .todo) (l t .loop .left) (s t .pre .2) (s t .pre .3) (s t .pre .4) (l t .loop .inv .3)
+    reach-stop (masks t) (s t .pre .0) (s t .pre .2) (s t .pre .3) (s t .pre .4) (l t .loop .inv .3)
     (c .if1 .taken) (t .loop-test .taken) (l t .loop .inv .2)
 
 cast-j : tie.Need-cast-j Inv-loop μ-loop
@@ -76,7 +76,7 @@ loop-less : tie.Need-loop-less Inv-loop μ-loop
 loop-less c =
     let t = c .before .before in
     let lm : getD (masks t) (trailingZeros 64 (l t .loop .todo)) 0 < 2 ^ 64 = omega (arith, c .row .ensures) in
-    rw (c .row .ensures) (reach-less (masks t) (s t .pre .0) (aside t) (s t .args .u) (s t .args .around) (l t .loop .seen) (l t .loop .todo) (l t .loop .left) (s t .pre .2) (s t .pre .3) (s t .pre .4) (l t .loop .inv .3)
+    rw (c .row .ensures) (reach-less (masks t) (s t .pre .0) (s t .pre .2) (s t .pre .3) (s t .pre .4) (l t .loop .inv .3)
     (c .before .if1 .left) (l t .loop .inv .0) (l t .loop .inv .1) lm)
 
 loop-again : tie.Need-loop-again Inv-loop μ-loop
@@ -86,17 +86,17 @@ loop-again c =
     let i = l t .loop .inv in
     let lm : getD (masks t) (trailingZeros 64 (l t .loop .todo)) 0 < 2 ^ 64 = omega (arith, c .row .ensures) in
     rw (c .row .ensures) (
-      todo-low (masks t) (s t .pre .0) (aside t) (s t .args .u) (s t .args .around) (l t .loop .seen) (l t .loop .todo) (l t .loop .left) (s t .pre .2) (s t .pre .3) (s t .pre .4) (i .3) d (i .0) (i .1) lm,
-      seen-low (masks t) (s t .pre .0) (aside t) (s t .args .u) (s t .args .around) (l t .loop .seen) (l t .loop .todo) (l t .loop .left) (s t .pre .2) (s t .pre .3) (s t .pre .4) (i .3) d (i .0) (i .1) lm,
-      left-low (masks t) (s t .pre .0) (aside t) (s t .args .u) (s t .args .around) (l t .loop .seen) (l t .loop .todo) (l t .loop .left) (s t .pre .2) (s t .pre .3) (s t .pre .4) (i .3) d (i .0) (i .1) lm (i .2),
-      reach-turn (masks t) (s t .pre .0) (aside t) (s t .args .u) (s t .args .around) (l t .loop .seen) (l t .loop .todo) (l t .loop .left) (s t .pre .2) (s t .pre .3) (s t .pre .4) (i .3) d (i .0) (i .1),
+      todo-low (masks t) (s t .pre .0) (s t .pre .2) (s t .pre .3) (s t .pre .4) (i .3) d (i .0) (i .1) lm,
+      seen-low (masks t) (s t .pre .0) (s t .pre .2) (s t .pre .3) (s t .pre .4) (i .3) d (i .0) (i .1) lm,
+      left-low (masks t) (s t .pre .0) (s t .pre .2) (s t .pre .3) (s t .pre .4) (i .3) d (i .0) (i .1) lm (i .2),
+      reach-turn (masks t) (s t .pre .0) (s t .pre .2) (s t .pre .3) (s t .pre .4) (i .3) d (i .0) (i .1),
     )
 
 returns-2 : tie.Need-returns-2 Inv-loop μ-loop
 returns-2 c =
     let q = c .before in
     let b = c .before .before .before .before in
-    reach-all (now (b .args .near)) (b .pre .0) (b .args .c ∷ removedBy (b .args .removed)) (b .args .u) (b .args .around) (q .loop .seen) (q .loop .todo) (q .loop .left) (b .pre .2) (b .pre .3) (b .pre .4) (q .loop .inv .3)
+    reach-all (now (b .args .near)) (b .pre .0) (b .pre .2) (b .pre .3) (b .pre .4) (q .loop .inv .3)
     (c .loop-test .left)
 
 pub falls-apart-spec : {M : Type 1} → statement M

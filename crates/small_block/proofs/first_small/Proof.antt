@@ -1,14 +1,14 @@
-use Prim.Native.Nat.{ℕ, _-_, _^_, _<_}
+use Prim.Native.Nat.{_^_, _<_}
 use mathlib.Core.Path.{refl, sym, _∙_}
 use mathlib.Core.List.{_∷_}
 use native.Mathlib.Omega.{arith}
 use borrow.Author.Needs.{needs}
 use borrow.Author.Tests.{not-true, not-false}
-use lib.Count.{trailing-le, trailingZeros}
-use lib.Bits.{or-lt, bitAnd}
-use Rattle.whole.specs.Masks.{these, rest-less}
+use lib.Count.{trailing-le}
+use lib.Bits.{or-lt}
+use Rattle.whole.specs.Masks.{these}
 use Rattle.small_block.specs.Held.{nearBy, removedBy}
-use Rattle.small_block.specs.Seeking.{Seeking, lowest-below, seek-none, seek-skip, seek-free, seek-found, seek-on, no-block}
+use Rattle.small_block.specs.Seeking.{Turn, turn, Seeking, seek-none, seek-skip, seek-free, seek-found, seek-on, no-block}
 use Rattle.small_block.proofs.first_small.Statement.{statement}
 use Rattle.small_block.proofs.first_small.Tie as tie
 
@@ -25,19 +25,8 @@ loop-holds : tie.Need-loop-holds Inv-loop μ-loop
 loop-holds c =
     (omega arith, omega arith, record { past = c .before .args .c ∷ removedBy (c .before .args .removed); leads = refl; marks = c .set-aside .ensures; holds = λ k m. m })
 
--- in a turn
-module _ (t : tie.In-loop Inv-loop μ-loop) where
-  abbrev rest : ℕ
-  rest = t .before .loop .rest
-
-  less : bitAnd rest (rest - 1) < rest
-  less = rest-less rest (t .loop-test .taken) (t .before .loop .inv .0)
-
-  smaller : bitAnd rest (rest - 1) < 2 ^ 64
-  smaller = omega (arith, less)
-
-  below : trailingZeros 64 rest < 64
-  below = lowest-below rest (t .loop-test .taken) (t .before .loop .inv .0)
+at : (t : tie.In-loop Inv-loop μ-loop) → Turn (t .before .loop .rest)
+at t = turn (t .before .loop .rest) (t .loop-test .taken) (t .before .loop .inv .0)
 
 cast-s : tie.Need-cast-s Inv-loop μ-loop
 cast-s c = omega (arith, trailing-le 64 (c .before .loop .rest))
@@ -46,13 +35,13 @@ sub-rest : tie.Need-sub-rest Inv-loop μ-loop
 sub-rest c = omega arith
 
 has-requires : tie.Need-has-requires Inv-loop μ-loop
-has-requires c κs = below c
+has-requires c κs = at c .below
 
 grow-requires : tie.Need-grow-requires Inv-loop μ-loop
 grow-requires c κs =
     let t = c .before .before in
     let s = t .before .before .before in
-    (s .pre .0, s .pre .1, below t, seek-free (t .before .loop .inv .2) (t .loop-test .taken) (t .before .loop .inv .0) (sym (c .before .has .ensures) ∙ not-true (c .before .has .result) (c .if1 .taken)))
+    (s .pre .0, s .pre .1, at t .below, seek-free (t .before .loop .inv .2) (t .loop-test .taken) (t .before .loop .inv .0) (sym (c .before .has .ensures) ∙ not-true (c .before .has .result) (c .if1 .taken)))
 
 is-small-requires : tie.Need-is-small-requires Inv-loop μ-loop
 is-small-requires c κs = search needs
@@ -68,7 +57,7 @@ returns c =
     )
 
 loop-less : tie.Need-loop-less Inv-loop μ-loop
-loop-less c = less (c .before .before .before .before .before .before)
+loop-less c = at (c .before .before .before .before .before .before) .less
 
 loop-again : tie.Need-loop-again Inv-loop μ-loop
 loop-again c =
@@ -76,19 +65,19 @@ loop-again c =
     let t = n .before .before in
     let g = c .before .before .before .grow in
     let mask : g .result .seen < 2 ^ 64 = omega arith in (
-      smaller t,
+      at t .smaller,
       or-lt 64 (t .before .loop .seen) (g .result .seen) (t .before .loop .inv .1) mask,
       seek-on (t .before .loop .inv .2) (t .loop-test .taken) (t .before .loop .inv .0) (sym (n .before .has .ensures) ∙ not-true (n .before .has .result) (n .if1 .taken))
           (g .result .order) (g .result .count) (g .result .seen) (g .ensures) (sym (c .before .before .is-small .ensures) ∙ c .before .if2 .left),
     )
 
 loop-less-2 : tie.Need-loop-less-2 Inv-loop μ-loop
-loop-less-2 c = less (c .before .before)
+loop-less-2 c = at (c .before .before) .less
 
 loop-again-2 : tie.Need-loop-again-2 Inv-loop μ-loop
 loop-again-2 c =
     let t = c .before .before in
-    (smaller t, t .before .loop .inv .1, seek-skip (t .before .loop .inv .2) (t .loop-test .taken) (t .before .loop .inv .0) (sym (c .before .has .ensures) ∙ not-false (c .before .has .result) (c .if1 .left)))
+    (at t .smaller, t .before .loop .inv .1, seek-skip (t .before .loop .inv .2) (t .loop-test .taken) (t .before .loop .inv .0) (sym (c .before .has .ensures) ∙ not-false (c .before .has .result) (c .if1 .left)))
 
 no-block-requires : tie.Need-no-block-requires Inv-loop μ-loop
 no-block-requires c κs = search needs

@@ -1,14 +1,12 @@
-use Prim.Native.Nat.{ℕ, _-_, _^_, _<_}
+use Prim.Native.Nat.{_^_, _<_}
 use mathlib.Core.Path.{_≡_, refl, sym, _∙_}
 use native.Mathlib.Omega.{arith}
 use borrow.Author.Needs.{needs}
 use denote.Ref.{now}
-use lib.Count.{trailingZeros}
-use lib.Bits.{bitAnd}
 use Rattle.rules.specs.SmallBlock.{overCuts}
-use Rattle.whole.specs.Masks.{these, rest-less}
+use Rattle.whole.specs.Masks.{these}
 use Rattle.small_block.specs.Held.{nearBy, removedBy}
-use Rattle.small_block.specs.Seeking.{lowest-below, cuts-none, cuts-skip, cuts-found, cuts-on, no-block}
+use Rattle.small_block.specs.Seeking.{Turn, turn, cuts-none, cuts-skip, cuts-found, cuts-on, no-block}
 use Rattle.small_block.proofs.over_cuts.Statement.{statement}
 use Rattle.small_block.proofs.over_cuts.Tie as tie
 
@@ -21,31 +19,20 @@ abbrev μ-loop : tie.MeasureT-loop
 loop-holds : tie.Need-loop-holds Inv-loop μ-loop
 loop-holds c = (omega arith, refl)
 
--- in a turn
-module _ (t : tie.In-loop Inv-loop μ-loop) where
-  abbrev rest : ℕ
-  rest = t .before .loop .rest
-
-  less : bitAnd rest (rest - 1) < rest
-  less = rest-less rest (t .loop-test .taken) (t .before .loop .inv .0)
-
-  smaller : bitAnd rest (rest - 1) < 2 ^ 64
-  smaller = omega (arith, less)
-
-  below : trailingZeros 64 rest < 64
-  below = lowest-below rest (t .loop-test .taken) (t .before .loop .inv .0)
+at : (t : tie.In-loop Inv-loop μ-loop) → Turn (t .before .loop .rest)
+at t = turn (t .before .loop .rest) (t .loop-test .taken) (t .before .loop .inv .0)
 
 cast-c : tie.Need-cast-c Inv-loop μ-loop
-cast-c c = omega (arith, below c)
+cast-c c = omega (arith, at c .below)
 
 sub-rest : tie.Need-sub-rest Inv-loop μ-loop
 sub-rest c = omega arith
 
 is-cut-requires : tie.Need-is-cut-requires Inv-loop μ-loop
-is-cut-requires c κs = (c .before .before .pre, below c)
+is-cut-requires c κs = (c .before .before .pre, at c .below)
 
 first-small-requires : tie.Need-first-small-requires Inv-loop μ-loop
-first-small-requires c κs = (c .before .before .before .before .pre, below (c .before .before))
+first-small-requires c κs = (c .before .before .before .before .pre, at (c .before .before) .below)
 
 returns : tie.Need-returns Inv-loop μ-loop
 returns c =
@@ -59,7 +46,7 @@ returns c =
     )
 
 loop-less : tie.Need-loop-less Inv-loop μ-loop
-loop-less c = less (c .before .before .before .before .before)
+loop-less c = at (c .before .before .before .before .before) .less
 
 loop-again : tie.Need-loop-again Inv-loop μ-loop
 loop-again c =
@@ -67,20 +54,20 @@ loop-again c =
     let t = n .before .before in
     let a = t .before .before .args in
     let g = c .before .before .first-small in (
-      smaller t,
+      at t .smaller,
       t .before .loop .inv .1
           ∙ cuts-on (nearBy (now (a .near))) (these (a .live)) (removedBy (a .removed)) (t .before .loop .rest) (t .loop-test .taken) (t .before .loop .inv .0)
           (sym (n .before .is-cut .ensures) ∙ n .if1 .taken) (g .result .order) (g .result .count) (g .ensures .1) (c .if2 .left),
     )
 
 loop-less-2 : tie.Need-loop-less-2 Inv-loop μ-loop
-loop-less-2 c = less (c .before .before)
+loop-less-2 c = at (c .before .before) .less
 
 loop-again-2 : tie.Need-loop-again-2 Inv-loop μ-loop
 loop-again-2 c =
     let t = c .before .before in
     let a = t .before .before .args in (
-      smaller t,
+      at t .smaller,
       t .before .loop .inv .1
           ∙ cuts-skip (nearBy (now (a .near))) (these (a .live)) (removedBy (a .removed)) (t .before .loop .rest) (t .loop-test .taken) (t .before .loop .inv .0)
           (sym (c .before .is-cut .ensures) ∙ c .if1 .left),

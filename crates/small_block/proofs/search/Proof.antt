@@ -1,16 +1,15 @@
-use Prim.Native.Nat.{ℕ, _-_, _^_, _<_}
+use Prim.Native.Nat.{ℕ, _^_, _<_}
 use mathlib.Core.Path.{_≡_, sym, _∙_, ap}
 use mathlib.Core.List.{List}
 use native.Mathlib.Omega.{arith}
 use borrow.Author.Needs.{needs}
 use denote.Ref.{now}
 use lib.Count.{trailingZeros}
-use lib.Bits.{bitAnd}
 use Rattle.rules.specs.SmallBlock.{search as searched, overCuts, overRemoved}
-use Rattle.whole.specs.Masks.{these, rest-less}
+use Rattle.whole.specs.Masks.{these}
 use Rattle.small_block.specs.Held.{nearBy}
 use Rattle.small_block.specs.Cutting.{removed-is}
-use Rattle.small_block.specs.Seeking.{lowest-below, removed-over, removed-found, removed-on, search-found, search-on, no-block}
+use Rattle.small_block.specs.Seeking.{Turn, turn, removed-over, removed-found, removed-on, search-found, search-on, no-block}
 use Rattle.small_block.proofs.search.Statement.{statement}
 use Rattle.small_block.proofs.search.Tie as tie
 
@@ -37,22 +36,11 @@ loop-holds c =
     let a = c .before .before .before .args in
     (omega arith, search-on (nearBy (now (a .near))) (these (a .live)) (g .result .order) (g .result .count) (g .ensures .1) (c .if1 .left))
 
--- in a turn
-module _ (t : tie.In-loop Inv-loop μ-loop) where
-  abbrev rest : ℕ
-  rest = t .before .loop .rest
-
-  less : bitAnd rest (rest - 1) < rest
-  less = rest-less rest (t .loop-test .taken) (t .before .loop .inv .0)
-
-  smaller : bitAnd rest (rest - 1) < 2 ^ 64
-  smaller = omega (arith, less)
-
-  below : trailingZeros 64 rest < 64
-  below = lowest-below rest (t .loop-test .taken) (t .before .loop .inv .0)
+at : (t : tie.In-loop Inv-loop μ-loop) → Turn (t .before .loop .rest)
+at t = turn (t .before .loop .rest) (t .loop-test .taken) (t .before .loop .inv .0)
 
 cast-r : tie.Need-cast-r Inv-loop μ-loop
-cast-r c = omega (arith, below c)
+cast-r c = omega (arith, at c .below)
 
 sub-rest : tie.Need-sub-rest Inv-loop μ-loop
 sub-rest c = omega arith
@@ -67,22 +55,22 @@ returns-2 c =
     let g = c .before .before .over-cuts2 in (
       g .ensures .0,
       removed-found (nearBy (now (a .near))) (these (a .live)) (t .before .loop .rest) (t .loop-test .taken) (t .before .loop .inv .0) (g .result .order) (g .result .count)
-          (g .ensures .1 ∙ ap (λ (xs : List ℕ). overCuts (nearBy (now (a .near))) (these (a .live)) xs (these (a .live))) (removed-is (trailingZeros 64 (t .before .loop .rest)) (below t)))
+          (g .ensures .1 ∙ ap (λ (xs : List ℕ). overCuts (nearBy (now (a .near))) (these (a .live)) xs (these (a .live))) (removed-is (trailingZeros 64 (t .before .loop .rest)) (at t .below)))
           (c .if2 .taken) ∙ sym (t .before .loop .inv .1),
     )
 
 loop-less : tie.Need-loop-less Inv-loop μ-loop
-loop-less c = less (c .before .before .before)
+loop-less c = at (c .before .before .before) .less
 
 loop-again : tie.Need-loop-again Inv-loop μ-loop
 loop-again c =
     let t = c .before .before .before in
     let a = t .before .before .before .before .before .args in
     let g = c .before .before .over-cuts2 in (
-      smaller t,
+      at t .smaller,
       t .before .loop .inv .1
           ∙ removed-on (nearBy (now (a .near))) (these (a .live)) (t .before .loop .rest) (t .loop-test .taken) (t .before .loop .inv .0) (g .result .order) (g .result .count)
-          (g .ensures .1 ∙ ap (λ (xs : List ℕ). overCuts (nearBy (now (a .near))) (these (a .live)) xs (these (a .live))) (removed-is (trailingZeros 64 (t .before .loop .rest)) (below t)))
+          (g .ensures .1 ∙ ap (λ (xs : List ℕ). overCuts (nearBy (now (a .near))) (these (a .live)) xs (these (a .live))) (removed-is (trailingZeros 64 (t .before .loop .rest)) (at t .below)))
           (c .if2 .left),
     )
 

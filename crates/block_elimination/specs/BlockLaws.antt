@@ -1,0 +1,194 @@
+-- Laws of a block's minima, its steps and its drops.
+-- Assumes nothing.
+use mathlib.Core.Path.{_≡_, refl, sym, ap, ap₂, _∙_, subst, fun-ext}
+use mathlib.Core.List.{List, [], _∷_, _++_, append-assoc}
+use Prim.Native.Nat.{ℕ, zero, suc, _+_, _-_, _^_, _<_, _≤_}
+use native.Mathlib.Omega.{arith}
+use native.Mathlib.Numerals.{add-one}
+use lib.ListN.{length, getD, set, take, drop, replicate}
+use lib.IntN.{ℤ, pos}
+use Rattle.whole.specs.Parts.{∣_∣}
+use Rattle.whole.specs.Words.{bit, bitsFrom, tab}
+use Rattle.whole.specs.Masks.{bit-none}
+use Rattle.whole.specs.Lists.{fill-step}
+use Rattle.rules.specs.declared.Step.{Step}
+use Rattle.rules.specs.Graph.{Graph, dropTo}
+use Rattle.rules.specs.Eliminate as rule
+use Rattle.rules.specs.Record.{hold}
+use Rattle.rules.specs.Size.{Within}
+use Rattle.rules.specs.SmallBlock.{boundary, inner, cheapest, bestMask, blockTable, dropAll, blockSteps}
+use Rattle.graph.specs.Small.{small-set, dropped-constant, dropped-linear, dropped-edges}
+use Rattle.block_minima.specs.Weights.{weights, weights-inner, Minimum}
+use Rattle.block_elimination.specs.Block.{Lowest, pairOf, memberStep}
+
+pub fillings : (w : ℕ) → w ≤ 2 → 2 ^ w ≤ 4
+fillings zero h = omega arith
+fillings (suc zero) h = omega arith
+fillings (suc (suc zero)) h = omega arith
+fillings (suc (suc (suc w))) h = absurd (over h)
+  where
+    over : suc (suc (suc w)) ≤ 2 → ⊥
+    over h = omega arith
+
+-- ---- a step as a record holds it
+pub held-step : (i c d f s t : ℕ) (near : List ℕ) → d ≡ length near → f ≡ getD near 0 0 → s ≡ getD near 1 0 → t ≡ getD near 2 0
+    → _≡_ {A = Step} (record { decision = i; degree = d; first = f; second = s; third = t; choices = c }) (hold (rule.step i near c))
+held-step i c d f s t near p q r u = rw (p, q, r, u)
+
+-- the boundary, from its first two
+pub pair-whole : (xs : List ℕ) → length xs ≤ 2 → pairOf (getD xs 0 0) (getD xs 1 0) (length xs) ≡ xs
+pair-whole [] h = refl
+pair-whole (x ∷ []) h = refl
+pair-whole (x ∷ y ∷ []) h = refl
+pair-whole (x ∷ y ∷ z ∷ xs) h = absurd (over h)
+  where
+    over : length (x ∷ y ∷ z ∷ xs) ≤ 2 → ⊥
+    over h = omega arith
+
+pub pair-length : (a b w : ℕ) → w ≤ 2 → length (pairOf a b w) ≡ w
+pair-length a b zero h = refl
+pair-length a b (suc zero) h = refl
+pair-length a b (suc (suc zero)) h = refl
+pair-length a b (suc (suc (suc w))) h = absurd (over h)
+  where
+    over : suc (suc (suc w)) ≤ 2 → ⊥
+    over h = omega arith
+
+pub pair-third : (a b w : ℕ) → getD (pairOf a b w) 2 0 ≡ 0
+pair-third a b zero = refl
+pair-third a b (suc zero) = refl
+pair-third a b (suc (suc w)) = third w
+  where
+    third : (w : ℕ) → getD (a ∷ b ∷ take w []) 2 0 ≡ 0
+    third zero = refl
+    third (suc w) = refl
+
+-- ---- choices: a mask that is missing is 0, and chooses 0
+pub choices-are : (best : ℕ → ℕ) (masks : List ℕ) (w k : ℕ) → w ≤ 2 → masks ≡ tab best (2 ^ w) ++ drop (2 ^ w) (replicate 4 0)
+    → bitsFrom (λ f. bit (getD masks f 0) k) 0 4 ≡ bitsFrom (λ f. bit (best f) k) 0 (2 ^ w)
+unfolding tab bitsFrom
+choices-are best masks zero k h e = rw (e, bit-none k) (omega arith)
+choices-are best masks (suc zero) k h e = rw (e, bit-none k) (omega arith)
+choices-are best masks (suc (suc zero)) k h e = rw e
+choices-are best masks (suc (suc (suc w))) k h e = absurd (over h)
+  where
+    over : suc (suc (suc w)) ≤ 2 → ⊥
+    over h = omega arith
+
+-- ---- absorbing looks at the masks of its neighbours only
+pub absorb-same : (t u : ℕ → ℤ) (ns : List ℕ) (g : Graph) → length ns ≤ 2 → ((m : ℕ) → m < 2 ^ length ns → t m ≡ u m) → rule.absorb t ns g ≡ rule.absorb u ns g
+unfolding rule.absorb
+absorb-same t u [] g l h = rw (h 0 (omega arith))
+absorb-same t u (j ∷ []) g l h = rw (h 0 (omega arith), h 1 (omega arith))
+absorb-same t u (j ∷ k ∷ []) g l h = rw (h 0 (omega arith), h 1 (omega arith), h 2 (omega arith), h 3 (omega arith))
+absorb-same t u (j ∷ k ∷ i ∷ ns) g l h = absurd (over l)
+  where
+    over : length (j ∷ k ∷ i ∷ ns) ≤ 2 → ⊥
+    over l = omega arith
+
+-- ---- a list by its places
+tab-front : {A : Type 0} (f : ℕ → A) (n : ℕ) → tab f (suc n) ≡ f 0 ∷ tab (λ k. f (suc k)) n
+unfolding tab
+tab-front f zero = refl
+tab-front {A} f (suc n) = ap (λ (t : List A). t ++ f (suc n) ∷ []) (tab-front f n)
+
+tab-same : {A : Type 0} (f g : ℕ → A) (n : ℕ) → ((k : ℕ) → k < n → f k ≡ g k) → tab f n ≡ tab g n
+unfolding tab
+tab-same f g zero h = refl
+tab-same {A} f g (suc n) h = ap₂ (λ (t : List A) (x : A). t ++ x ∷ []) (tab-same f g n (λ k l. h k (omega arith))) (h n (omega arith))
+
+module _ (g : Graph) (b : List ℕ) where
+  abbrev stepAt : ℕ → ℕ → rule.Step
+  stepAt k i = rule.step i (boundary g b) (bitsFrom (λ f. bit (bestMask g b f) k) 0 (2 ^ length (boundary g b)))
+
+  steps-from : (j : ℕ) (is : List ℕ) → blockSteps g b j is ≡ tab (λ k. stepAt (j + k) (getD is k 0)) (length is)
+  unfolding blockSteps tab
+  steps-from j [] = refl
+  steps-from j (i ∷ is) =
+      let here : j ≡ j + 0 = omega arith in
+      ap₂ (λ (k : ℕ) (t : List rule.Step). stepAt k i ∷ t) here (steps-from (suc j) is ∙ tab-same (λ k. stepAt (suc j + k) (getD is k 0)) (λ k. stepAt (j + suc k) (getD is k 0)) (length is) (λ k l. up k))
+      ∙ sym (tab-front (λ k. stepAt (j + k) (getD (i ∷ is) k 0)) (length is))
+    where
+      up : (k : ℕ) → stepAt (suc j + k) (getD is k 0) ≡ stepAt (j + suc k) (getD is k 0)
+      up k = let e : suc j + k ≡ j + suc k = omega arith in ap (λ (m : ℕ). stepAt m (getD is k 0)) e
+
+  -- the steps of the rules are those that the code makes
+  pub steps-are : (near order masks : List ℕ) (w : ℕ) → near ≡ boundary g b → length (boundary g b) ≡ w → w ≤ 2 → masks ≡ tab (bestMask g b) (2 ^ w) ++ drop (2 ^ w) (replicate 4 0)
+      → ((k : ℕ) → k < length b → getD order k 0 ≡ getD b k 0) → tab (λ k. memberStep near masks k (getD order k 0)) (length b) ≡ blockSteps g b 0 b
+  steps-are near order masks w en ew h em eo =
+      tab-same (λ k. memberStep near masks k (getD order k 0)) (λ k. stepAt (0 + k) (getD b k 0)) (length b) (λ k l. same k l) ∙ sym (steps-from 0 b)
+    where
+      same : (k : ℕ) → k < length b → memberStep near masks k (getD order k 0) ≡ stepAt (0 + k) (getD b k 0)
+      same k l =
+          let plain : k ≡ 0 + k = omega arith in
+          ap₂ (λ (i : ℕ) (c : ℕ). rule.step i near c) (eo k l) (choices-are (bestMask g b) masks w k h em ∙ ap (λ (v : ℕ). bitsFrom (λ f. bit (bestMask g b f) k) 0 (2 ^ v)) (sym ew))
+          ∙ ap₂ (λ (ns : List ℕ) (m : ℕ). rule.step (getD b k 0) ns (bitsFrom (λ f. bit (bestMask g b f) m) 0 (2 ^ length (boundary g b)))) en plain
+
+  -- the minima that the code finds are those of the rules
+  pub lowest-are : (near : List ℕ) (count size : ℕ) (masks : List ℕ) (table : List ℤ) → near ≡ boundary g b → length b ≡ count
+      → Lowest (λ f. inner (weights (g .linear) (g .edges)) near f b) count size masks table
+      → (masks ≡ tab (bestMask g b) size ++ drop size (replicate 4 0)) × (table ≡ tab (blockTable g b) size ++ drop size (replicate 8 (pos 0)))
+  lowest-are near count size masks table en ec w = (
+    w .winners ∙ ap (λ (t : List ℕ). t ++ drop size (replicate 4 0)) (tab-same (λ f. cheapest (own f) (2 ^ count - 1)) (bestMask g b) size (λ f l. best f)),
+    w .costs ∙ ap (λ (t : List ℤ). t ++ drop size (replicate 8 (pos 0))) (tab-same (λ f. own f (cheapest (own f) (2 ^ count - 1))) (blockTable g b) size (λ f l. ap₂ (λ (c : ℕ → ℤ) (m : ℕ). c m) (costs f) (best f))),
+  )
+    where
+      own : ℕ → ℕ → ℤ
+      own f = inner (weights (g .linear) (g .edges)) near f b
+
+      costs : (f : ℕ) → own f ≡ inner g (boundary g b) f b
+      costs f = fun-ext (λ m. ap (λ (ns : List ℕ). inner (weights (g .linear) (g .edges)) ns f b m) en ∙ sym (weights-inner g (boundary g b) f b m))
+
+      best : (f : ℕ) → cheapest (own f) (2 ^ count - 1) ≡ bestMask g b f
+      best f = ap₂ (λ (c : ℕ → ℤ) (k : ℕ). cheapest c (2 ^ k - 1)) (costs f) (sym ec)
+
+-- ---- what is dropped stays within the size rule
+within-drop : (s i : ℕ) (g : Graph) → Within g → Within (dropTo s i g)
+within-drop s i g w = record {
+  constant = dropped-constant s i g (dropTo s i g) refl w;
+  linear = dropped-linear s i g (dropTo s i g) refl w .each;
+  edges = dropped-edges s i g (dropTo s i g) refl w .each;
+}
+
+pub within-drop-all : (b : List ℕ) (g : Graph) → Within g → Within (dropAll b g)
+unfolding dropAll
+within-drop-all [] g w = w
+within-drop-all (i ∷ is) g w = within-drop-all is (dropTo 3 i g) (within-drop 3 i g w)
+
+-- ---- dropping in turn
+module _ (i : ℕ) (is js : List ℕ) (g h : Graph) where
+  pub drops-more : js ≡ i ∷ is → h ≡ dropTo 3 i g → dropAll js g ≡ dropAll is h
+  unfolding dropAll
+  drops-more e d = rw (e, d)
+
+pub drops-none : (is : List ℕ) (g : Graph) → is ≡ [] → dropAll is g ≡ g
+unfolding dropAll
+drops-none is g e = rw e
+
+pub dropped-n : (s i : ℕ) (g h : Graph) → h ≡ dropTo s i g → h .n ≡ g .n
+unfolding dropTo
+dropped-n s i g h e = ap (λ (x : Graph). x .n) e
+
+-- ---- one more of a list
+pub listed-more : {A : Type 0} (xs : List A) (f : ℕ → A) (k : ℕ) → (xs ++ tab f k) ++ f k ∷ [] ≡ xs ++ tab f (k + 1)
+unfolding tab
+listed-more xs f k = rw add-one (append-assoc xs (tab f k) (f k ∷ []))
+
+-- ---- the minima in turn
+module _ (c : ℕ → ℕ → ℤ) (count : ℕ) where
+  pub lowest-none : Lowest c count 0 (replicate 4 0) (replicate 8 (pos 0))
+  unfolding tab
+  lowest-none = record { winners = refl; costs = refl; bounded = record { each = zeros 8 } }
+    where
+      zeros : (n m : ℕ) → ∣ getD (replicate n (pos 0)) m (pos 0) ∣ ≤ 290271069732864
+      zeros zero m = omega arith
+      zeros (suc n) zero = omega arith
+      zeros (suc n) (suc m) = zeros n m
+
+  pub lowest-more : (f : ℕ) (masks : List ℕ) (table : List ℤ) (mask : ℕ) (cost v : ℤ) → f < 4 → Lowest c count f masks table → Minimum (c f) count mask cost → v ≡ cost
+      → Lowest c count (f + 1) (set masks f mask) (set table f v)
+  lowest-more f masks table mask cost v l w m e = record {
+    winners = fill-step (λ f. cheapest (c f) (2 ^ count - 1)) (replicate 4 0) masks f mask l (w .winners) (m .lowest);
+    costs = fill-step (λ f. c f (cheapest (c f) (2 ^ count - 1))) (replicate 8 (pos 0)) table f v (omega arith) (w .costs) (e ∙ m .costs ∙ ap (c f) (m .lowest));
+    bounded = small-set f v (w .bounded) (subst (λ (z : ℤ). ∣ z ∣ ≤ 290271069732864) (sym e) (m .bounded));
+  }

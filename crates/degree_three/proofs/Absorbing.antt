@@ -1,0 +1,59 @@
+-- The entries of the rules' table, and what they make of the graph.
+use mathlib.Core.Path.{_≡_, refl, sym, ap, ap₂, _∙_}
+use mathlib.Core.Bool.{Bool, true, false, cond}
+use mathlib.Core.List.{List, [], _∷_}
+use Prim.Native.Nat.{ℕ, _+_, _*_, _-_, _^_, _<_, _≤_}
+use native.Mathlib.Omega.{arith}
+use lib.ListN.{getD, set}
+use lib.IntN.{ℤ, pos, _+ℤ_, _-ℤ_}
+use Rattle.whole.specs.Parts.{∣_∣}
+use Rattle.whole.specs.Ints.{ints}
+use Rattle.whole.specs.Words.{tab, bit}
+use Rattle.whole.specs.Lists.{tab-at}
+use Rattle.rules.specs.Graph.{Graph, neighbours, addConstant, addLinear, dropTo}
+use Rattle.rules.specs.Eliminate.{tee}
+use Rattle.rules.specs.DegreeThree.{pass, moebius, pairs, addPairs, absorb3, eliminate3}
+use Rattle.graph.specs.Held.{held, withConstant, DoesEdges}
+use Rattle.graph.specs.Near.{nearOf}
+use Rattle.graph.specs.NearLaws.{near-list}
+use Rattle.graph.specs.Small.{Small, small-tab}
+use Rattle.graph.specs.declared.Frame.{Frame}
+use Rattle.graph.specs.declared.Near.{Near}
+
+pub moebius-table : (t : ℕ → ℤ) → tab (moebius (λ m. getD (tab t 8) m (pos 0))) 8 ≡ tab (moebius t) 8
+unfolding tab moebius
+moebius-table t = refl
+
+-- a pass at most doubles
+pass-small : (b c : ℕ) (t : ℕ → ℤ) → ((m : ℕ) → ∣ t m ∣ ≤ c) → (m : ℕ) → ∣ pass b t m ∣ ≤ c + c
+pass-small b c t h m = go (bit m b) (h m) (h (m - 2 ^ b))
+  where
+    go : (x : Bool) → ∣ t m ∣ ≤ c → ∣ t (m - 2 ^ b) ∣ ≤ c → ∣ cond x (t m -ℤ t (m - 2 ^ b)) (t m) ∣ ≤ c + c
+    go true p q = simp ints (omega arith)
+    go false p q = omega arith
+
+pub entries-small : (t : ℕ → ℤ) → ((m : ℕ) → ∣ t m ∣ ≤ 2 ^ 43) → Small (2 ^ 46) (tab (moebius t) 8)
+unfolding moebius
+entries-small t h = small-tab (moebius t) 8 (pass-small 2 (2 ^ 45) (pass 1 (pass 0 t)) (pass-small 1 (2 ^ 44) (pass 0 t) (pass-small 0 (2 ^ 43) t h)))
+
+pub absorb-made : (e : ℕ → ℤ) (near : List ℕ) (f g : Frame) (l l₁ l₂ l₃ d d₁ : List ℤ) → g ≡ withConstant f (f .constant +ℤ e 0)
+    → l₁ ≡ set l (getD near 0 0) (getD l (getD near 0 0) (pos 0) +ℤ e 1)
+    → l₂ ≡ set l₁ (getD near 1 0) (getD l₁ (getD near 1 0) (pos 0) +ℤ e 2)
+    → l₃ ≡ set l₂ (getD near 2 0) (getD l₂ (getD near 2 0) (pos 0) +ℤ e 4)
+    → DoesEdges (addPairs e near pairs) d d₁ → held g l₃ d₁ ≡ absorb3 e near (held f l d)
+unfolding absorb3 addConstant addLinear
+absorb-made e near f g l l₁ l₂ l₃ d d₁ h p q r s =
+    ap (λ (x : Frame). held x l₃ d₁) h ∙ s (f .n) (f .constant +ℤ e 0) l₃ (f .states) ∙ ap (addPairs e near pairs) (rw (r, q, p))
+
+absorb-same : (e u : ℕ → ℤ) (near js : List ℕ) (g : Graph) → ((m : ℕ) → m < 8 → e m ≡ u m) → ((k : ℕ) → getD near k 0 ≡ getD js k 0) → absorb3 e near g ≡ absorb3 u js g
+unfolding absorb3 addPairs
+absorb-same e u near js g h n =
+    rw (h 0 (omega arith), h 1 (omega arith), h 2 (omega arith), h 3 (omega arith), h 4 (omega arith), h 5 (omega arith), h 6 (omega arith), n 0, n 1, n 2)
+
+module _ (g : Graph) (i : ℕ) (near : Near) (is : near ≡ nearOf g i) where
+  pub eliminated : (d r : Graph) (e : List ℤ) → e ≡ tab (moebius (tee g i)) 8 → d ≡ dropTo 3 i g → r ≡ absorb3 (λ m. getD e m (pos 0)) (near .list) d → r ≡ eliminate3 i g
+  unfolding eliminate3
+  eliminated d r e p q s =
+      s
+      ∙ ap (absorb3 (λ m. getD e m (pos 0)) (near .list)) q
+      ∙ absorb-same (λ m. getD e m (pos 0)) (moebius (tee g i)) (near .list) (neighbours g i) (dropTo 3 i g) (λ m l. ap (λ (x : List ℤ). getD x m (pos 0)) p ∙ tab-at (moebius (tee g i)) 8 m (pos 0) l) (near-list g i near is)

@@ -1,0 +1,3 @@
+pub mod Entries
+pub mod Taking
+pub mod Absorbing

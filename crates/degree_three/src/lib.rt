@@ -1,0 +1,166 @@
+// Eliminating a decision that has three neighbours, where that leaves no cubic term.
+ghost use mathlib.Core.Path.{_≡_};
+ghost use mathlib.Core.Bool.{Bool, cond};
+ghost use mathlib.Core.List.{List};
+ghost use Prim.Native.Nat.{ℕ, _+_, _<_, _≤_, _^_};
+ghost use lib.ListN.{getD};
+ghost use lib.IntN.{ℤ, pos, _+ℤ_};
+ghost use Rattle.whole.specs.Parts.{∣_∣};
+ghost use Rattle.whole.specs.Words.{tab};
+ghost use Rattle.rules.specs.Eliminate.{stepOf};
+ghost use Rattle.rules.specs.DegreeThree.{moebius as transformed, cubic, pairs, addPairs, absorb3, eliminate3};
+ghost use Rattle.rules.specs.Record.{hold, noStep};
+ghost use Rattle.rules.specs.Size.{Within};
+ghost use Rattle.graph.specs.Held.{held, DoesEdges};
+ghost use Rattle.graph.specs.Near.{nearOf};
+ghost use Rattle.graph.specs.Small.{Small};
+ghost use Rattle.degree_three.specs.Pairs.{pairAt};
+
+// Two of three neighbours, and the Möbius entry that goes to their edge.
+pub struct Pair {
+    pub low: usize,
+    pub high: usize,
+    pub mask: usize,
+}
+
+const PAIRS: [Pair; 3] = [
+    Pair {
+        low: 0,
+        high: 1,
+        mask: 3,
+    },
+    Pair {
+        low: 0,
+        high: 2,
+        mask: 5,
+    },
+    Pair {
+        low: 1,
+        high: 2,
+        mask: 6,
+    },
+];
+
+// What trying a decision gives: a cubic term and nothing done, or the reduction.
+pub struct Tried {
+    pub cubic: bool,
+    pub frame: graph::Frame,
+    pub step: rules::Step,
+}
+
+pub fn pair_at(p: usize) -> Pair
+    requires { ⌜ p < 3 ⌝ }
+    ensures { λ r. ⌜ r ≡ pairAt p ⌝ }
+{
+    PAIRS[p]
+}
+
+// The three passes of the Möbius transform, a bit each.
+pub fn moebius(t: [i64; 8]) -> [i64; 8]
+    requires { ⌜ Small (2 ^ 50) t ⌝ }
+    ensures { λ r. ⌜ r ≡ tab (transformed (λ m. getD t m (pos 0))) 8 ⌝ }
+{
+    let s1 = t[1] - t[0];
+    let s3 = t[3] - t[2];
+    let s5 = t[5] - t[4];
+    let s7 = t[7] - t[6];
+    let u2 = t[2] - t[0];
+    let u3 = s3 - s1;
+    let u6 = t[6] - t[4];
+    let u7 = s7 - s5;
+    let e4 = t[4] - t[0];
+    let e5 = s5 - s1;
+    let e6 = u6 - u2;
+    let e7 = u7 - u3;
+    [t[0], s1, u2, u3, e4, e5, e6, e7]
+}
+
+// Each pair's edge gains its entry.
+pub fn add_pairs(edges: &mut [i64; 4096], near: graph::Near, entries: [i64; 8])
+    requires { ⌜ ((k : ℕ) → getD (near .list) k 0 < 64) × Small (2 ^ 50) (now edges) × Small (2 ^ 54) entries ⌝ }
+    ensures { λ _. ⌜ DoesEdges (addPairs (λ m. getD entries m (pos 0)) (near .list) pairs) (now (edges .entry)) (now (edges .exit)) ⌝ }
+{
+    let list = near.list;
+    let mut p: usize = 0;
+    while p < 3 {
+        let pair = pair_at(p);
+        let low = pair.low;
+        let high = pair.high;
+        let mask = pair.mask;
+        let j = list[low] as usize;
+        let k = list[high] as usize;
+        let v = entries[mask];
+        graph::add_edge(&mut *edges, j, k, v);
+        p = p + 1;
+    }
+}
+
+// The constant, the three neighbours and their pairs gain the entries.
+pub fn absorb_three(
+    lin: &mut [i64; 64],
+    edges: &mut [i64; 4096],
+    f: graph::Frame,
+    near: graph::Near,
+    entries: [i64; 8],
+) -> graph::Frame
+    requires { ⌜ ((k : ℕ) → getD (near .list) k 0 < 64) × (∣ f .constant ∣ ≤ 2 ^ 50) × Small (2 ^ 50) (now lin) × Small (2 ^ 50) (now edges) × Small (2 ^ 54) entries ⌝ }
+    ensures { λ r. ⌜ held r (now (lin .exit)) (now (edges .exit)) ≡ absorb3 (λ m. getD entries m (pos 0)) (near .list) (held f (now (lin .entry)) (now (edges .entry))) ⌝ }
+{
+    let list = near.list;
+    let j = list[0] as usize;
+    let k = list[1] as usize;
+    let l = list[2] as usize;
+    let e0 = entries[0];
+    let e1 = entries[1];
+    let e2 = entries[2];
+    let e4 = entries[4];
+    let g = graph::add_constant(f, e0);
+    graph::add_linear(&mut *lin, j, e1);
+    graph::add_linear(&mut *lin, k, e2);
+    graph::add_linear(&mut *lin, l, e4);
+    add_pairs(&mut *edges, near, entries);
+    g
+}
+
+// i leaves unless that takes a cubic term; then nothing is changed.
+pub fn eliminate_three(
+    lin: &mut [i64; 64],
+    edges: &mut [i64; 4096],
+    f: graph::Frame,
+    near: graph::Near,
+    i: usize,
+) -> Tried
+    requires { ⌜ (i < 64) × (f .n ≤ 64) × Within (held f (now lin) (now edges)) × (near ≡ nearOf (held f (now lin) (now edges)) i) × (near .count ≡ 3) ⌝ }
+    ensures { λ r. ⌜ (r .cubic ≡ cubic (held f (now (lin .entry)) (now (edges .entry))) i)
+        × (held (r .frame) (now (lin .exit)) (now (edges .exit)) ≡ cond (cubic (held f (now (lin .entry)) (now (edges .entry))) i) (held f (now (lin .entry)) (now (edges .entry))) (eliminate3 i (held f (now (lin .entry)) (now (edges .entry)))))
+        × (r .step ≡ cond (cubic (held f (now (lin .entry)) (now (edges .entry))) i) noStep (hold (stepOf (held f (now (lin .entry)) (now (edges .entry))) i))) ⌝ }
+{
+    let a = lin[i];
+    let d = low_degree::deltas(a, near);
+    let t = low_degree::tees(d);
+    let e = moebius(t);
+    let cube = e[7];
+    if cube != 0 {
+        let none = rules::Step {
+            decision: 0,
+            degree: 0,
+            first: 0,
+            second: 0,
+            third: 0,
+            choices: 0,
+        };
+        return Tried {
+            cubic: true,
+            frame: f,
+            step: none,
+        };
+    }
+    let step = low_degree::step_of(i, near, d);
+    let dropped = graph::drop_to(&mut *lin, &mut *edges, f, 3, i);
+    let left = absorb_three(&mut *lin, &mut *edges, dropped, near, e);
+    Tried {
+        cubic: false,
+        frame: left,
+        step: step,
+    }
+}

@@ -1,0 +1,118 @@
+-- The search for the dominant neighbour, turn by turn.
+use mathlib.Core.Path.{_≡_, refl, sym, ap, _∙_, subst}
+use mathlib.Core.Bool.{Bool, true, false, cond, _&&_, _||_}
+use mathlib.Core.List.{List, [], _∷_, map}
+use Prim.Native.Nat.{ℕ, zero, suc, _+_, _*_, _^_, _<_, _≤_}
+use native.Mathlib.Omega.{arith}
+use native.Mathlib.Numerals.{add-one}
+use lib.Dec.{eqb}
+use lib.ListN.{length, getD, drop, drop-of-length-le}
+use lib.Seq.{drop-cons}
+use lib.IntN.{ℤ, pos, negsuc, _+ℤ_, _-ℤ_}
+use lib.Signed.{ltZ, leZ}
+use mir.Syntax.{w64}
+use mir.Val.{SFits, toZ, ofZ}
+use borrow.Author.Tests.{ne-eqb}
+use Rattle.whole.specs.Parts.{∣_∣}
+use Rattle.whole.specs.Ints.{ints, fit-lo, rd}
+use Rattle.whole.specs.Cmp.{lt-ind, below0-abs}
+use Rattle.whole.specs.Words.{isZeroZ, below0, above0}
+use Rattle.rules.specs.Graph.{Graph, edge, lin, row, neighbours}
+use Rattle.rules.specs.DominantEdge.{Found, nothing, at, negatives, positives, lo, hi, upper, lower, dominates, weak, first, dominant}
+use Rattle.low_degree.proofs.Laws.{fit, sum-fits, read-below}
+use Rattle.dominant_edge.specs.declared.Test.{Test}
+use Rattle.dominant_edge.specs.Answer.{verdictOf, testOf}
+
+-- a test for 0, of the bits
+pub zero-test : (z : ℤ) → SFits w64 z → eqb (ofZ w64 z) 0 ≡ isZeroZ z
+zero-test (pos n) f = refl
+zero-test (negsuc n) f = ne-eqb (ofZ w64 (negsuc n)) 0 (λ e. omega (arith, fit-lo f))
+
+-- ---- the bounds
+pub above-is : (w : ℤ) → w -ℤ below0 w ≡ above0 w
+above-is w = lt-ind w (pos 0) (λ t. w -ℤ cond t w (pos 0) ≡ cond t (pos 0) w) (λ e. simp ints (omega arith)) (λ e. simp ints (omega arith))
+
+module _ (ws : List ℤ) (k : ℕ) where
+  pub negatives-turn : k < length ws → negatives (drop k ws) ≡ below0 (getD ws k (pos 0)) +ℤ negatives (drop (k + 1) ws)
+  unfolding negatives
+  negatives-turn h = rw (add-one, drop-cons ws k (pos 0) h)
+
+  pub positives-turn : k < length ws → positives (drop k ws) ≡ above0 (getD ws k (pos 0)) +ℤ positives (drop (k + 1) ws)
+  unfolding positives
+  positives-turn h = rw (add-one, drop-cons ws k (pos 0) h)
+
+  pub negatives-end : length ws ≤ k → negatives (drop k ws) ≡ pos 0
+  unfolding negatives
+  negatives-end h = rw (drop-of-length-le ws h)
+
+  pub positives-end : length ws ≤ k → positives (drop k ws) ≡ pos 0
+  unfolding positives
+  positives-end h = rw (drop-of-length-le ws h)
+
+-- ---- the first that passes
+module _ (p : ℕ → Bool) (js : List ℕ) (k : ℕ) where
+  pub first-passes : k < length js → p (getD js k 0) ≡ true → first p (drop k js) ≡ at (getD js k 0)
+  unfolding first
+  first-passes h e = rw (drop-cons js k 0 h, e)
+
+  pub first-fails : k < length js → p (getD js k 0) ≡ false → first p (drop k js) ≡ first p (drop (k + 1) js)
+  unfolding first
+  first-fails h e = rw (add-one, drop-cons js k 0 h, e)
+
+  pub first-end : length js ≤ k → first p (drop k js) ≡ nothing
+  unfolding first
+  first-end h = rw (drop-of-length-le js h)
+
+-- the code's test of an edge is the rules' of a neighbour
+pub test-is : (g : Graph) (i j : ℕ) (l h w : ℤ) → l ≡ lo g i → h ≡ hi g i → w ≡ edge g i j
+    → (testOf l h w .passes ≡ dominates g i j) × (testOf l h w .weak ≡ weak g i j)
+test-is g i j l h w p q r = rw (p, q, r) (go (ltZ (pos 0) (edge g i j)) (lo g i) (hi g i) (edge g i j))
+  where
+    go : (t : Bool) (l h w : ℤ)
+        → ((cond t (verdictOf (h -ℤ w) (l +ℤ w)) (verdictOf (h +ℤ w) (l -ℤ w))) .passes ≡ (leZ (cond t (h -ℤ w) (h +ℤ w)) (pos 0) && leZ (pos 0) (cond t (l +ℤ w) (l -ℤ w))))
+        × ((cond t (verdictOf (h -ℤ w) (l +ℤ w)) (verdictOf (h +ℤ w) (l -ℤ w))) .weak ≡ (isZeroZ (cond t (h -ℤ w) (h +ℤ w)) || isZeroZ (cond t (l +ℤ w) (l -ℤ w))))
+    go true l h w = (refl, refl)
+    go false l h w = (refl, refl)
+
+-- ---- one turn of the bounds, as the code makes it: kept and read back
+above0-abs : (w : ℤ) → ∣ above0 w ∣ ≤ ∣ w ∣
+above0-abs w = lt-ind w (pos 0) (λ t. ∣ cond t (pos 0) w ∣ ≤ ∣ w ∣) (λ e. omega arith) (λ e. omega arith)
+
+pub sum-next : (x x′ v n n′ s : ℤ) → x′ ≡ x +ℤ v → n ≡ v +ℤ n′ → x +ℤ n ≡ s → x′ +ℤ n′ ≡ s
+sum-next x x′ v n n′ s p q e = rw p (simp ints (omega (arith, simp ints at q, simp ints at e)))
+
+pub sum-end : (x n y : ℤ) → n ≡ pos 0 → x +ℤ n ≡ y → x ≡ y
+sum-end x n y p e = simp ints (omega (arith, simp ints at e, simp ints at p))
+
+pub record Turn (l h w r : ℤ) (b : ℕ) : Type 0 where
+  pub above-fits : SFits w64 (toZ w64 (ofZ w64 w) -ℤ toZ w64 (ofZ w64 r))
+  pub lo-fits : SFits w64 (l +ℤ toZ w64 (ofZ w64 r))
+  pub hi-fits : SFits w64 (h +ℤ toZ w64 (ofZ w64 (toZ w64 (ofZ w64 w) -ℤ toZ w64 (ofZ w64 r))))
+  pub lo-next : toZ w64 (ofZ w64 (l +ℤ toZ w64 (ofZ w64 r))) ≡ l +ℤ below0 w
+  pub hi-next : toZ w64 (ofZ w64 (h +ℤ toZ w64 (ofZ w64 (toZ w64 (ofZ w64 w) -ℤ toZ w64 (ofZ w64 r))))) ≡ h +ℤ above0 w
+  pub lo-small : ∣ toZ w64 (ofZ w64 (l +ℤ toZ w64 (ofZ w64 r))) ∣ ≤ b + 2199023255552
+  pub hi-small : ∣ toZ w64 (ofZ w64 (h +ℤ toZ w64 (ofZ w64 (toZ w64 (ofZ w64 w) -ℤ toZ w64 (ofZ w64 r))))) ∣ ≤ b + 2199023255552
+
+plus : (b : ℕ) (x y : ℤ) → ∣ x ∣ ≤ b → ∣ y ∣ ≤ 2199023255552 → ∣ x +ℤ y ∣ ≤ b + 2199023255552
+plus b x y p q = simp ints (omega arith)
+
+pub made : (l h w r : ℤ) (b : ℕ) → ∣ l ∣ ≤ b → ∣ h ∣ ≤ b → ∣ w ∣ ≤ 2199023255552 → b ≤ 2 ^ 50 → r ≡ below0 (toZ w64 (ofZ w64 w)) → Turn l h w r b
+made l h w r b hl hh hw hb f =
+    let fits : SFits w64 w = fit w (omega arith) in
+    let back : toZ w64 (ofZ w64 r) ≡ below0 w = read-below w r fits f in
+    let d : toZ w64 (ofZ w64 w) -ℤ toZ w64 (ofZ w64 r) ≡ above0 w = rw (rd fits, back) (above-is w) in
+    let a : SFits w64 (toZ w64 (ofZ w64 w) -ℤ toZ w64 (ofZ w64 r)) = subst (SFits w64) (sym d) (fit (above0 w) (omega (arith, above0-abs w))) in
+    let above : toZ w64 (ofZ w64 (toZ w64 (ofZ w64 w) -ℤ toZ w64 (ofZ w64 r))) ≡ above0 w = rd a ∙ d in
+    let lf : SFits w64 (l +ℤ toZ w64 (ofZ w64 r)) = rw back (sum-fits l (below0 w) (omega arith) (omega (arith, below0-abs w))) in
+    let hf : SFits w64 (h +ℤ toZ w64 (ofZ w64 (toZ w64 (ofZ w64 w) -ℤ toZ w64 (ofZ w64 r)))) = rw above (sum-fits h (above0 w) (omega arith) (omega (arith, above0-abs w))) in
+    let ln : toZ w64 (ofZ w64 (l +ℤ toZ w64 (ofZ w64 r))) ≡ l +ℤ below0 w = rd lf ∙ ap (λ (z : ℤ). l +ℤ z) back in
+    let hn : toZ w64 (ofZ w64 (h +ℤ toZ w64 (ofZ w64 (toZ w64 (ofZ w64 w) -ℤ toZ w64 (ofZ w64 r))))) ≡ h +ℤ above0 w = rd hf ∙ ap (λ (z : ℤ). h +ℤ z) above in
+    record {
+      above-fits = a;
+      lo-fits = lf;
+      hi-fits = hf;
+      lo-next = ln;
+      hi-next = hn;
+      lo-small = rw ln (plus b l (below0 w) hl (omega (arith, below0-abs w)));
+      hi-small = rw hn (plus b h (above0 w) hh (omega (arith, above0-abs w)));
+    }

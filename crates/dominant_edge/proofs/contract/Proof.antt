@@ -1,0 +1,167 @@
+use Rattle.dominant_edge.proofs.Giving.{minus, minus-fits, minus-at-most, by-turning, by-moving, step-by}
+use Rattle.low_degree.proofs.Laws.{read, sum-fits, gain-fits}
+use Rattle.rules.specs.Graph.{Graph, lin, edge}
+use Rattle.rules.specs.DominantEdge.{positive}
+use Rattle.graph.specs.Held.{held}
+use Rattle.graph.specs.NearLaws.{near-count, near-below, few-neighbours}
+use Rattle.graph.specs.Small.{Small, small-more, small-gain, small-near, dropped-constant, dropped-linear, dropped-edges}
+use Rattle.graph.specs.declared.Near.{Near}
+use Rattle.whole.specs.Parts.{∣_∣}
+use Rattle.whole.specs.Ints.{ints, rd}
+use lib.IntN.{ℤ, pos, negℤ, _+ℤ_}
+use lib.ListN.{getD}
+use mir.Syntax.{w64}
+use mir.Val.{SFits, toZ, ofZ}
+use denote.Ref.{now}
+use mathlib.Core.Bool.{true, false}
+use mathlib.Core.Path.{_≡_, sym, subst}
+use native.Mathlib.Omega.{arith}
+use Prim.Native.Nat.{ℕ, _+_, _*_, _^_, _<_, _≤_}
+use borrow.Author.Needs.{needs}
+use Rattle.dominant_edge.proofs.contract.Statement.{statement}
+use Rattle.dominant_edge.proofs.contract.Tie as tie
+
+-- the graph before, the decision's weight and its edge to j
+abbrev before : tie.Start → Graph
+before s = held (s .args .f) (now (s .args .lin)) (now (s .args .edges))
+
+abbrev a : tie.Start → ℤ
+a s = lin (before s) (s .args .i)
+
+abbrev w : tie.Start → ℤ
+w s = edge (before s) (s .args .i) (s .args .j)
+
+a-small : (s : tie.Start) → ∣ a s ∣ ≤ 1099511627776
+a-small s = s .pre .3 .linear (s .args .i)
+
+w-small : (s : tie.Start) → ∣ w s ∣ ≤ 2199023255552
+w-small s = s .pre .3 .edges (64 * s .args .i + s .args .j)
+
+a-read : (s : tie.Start) → toZ w64 (ofZ w64 (a s)) ≡ a s
+a-read s = read (a s) (omega (arith, a-small s))
+
+w-read : (s : tie.Start) → toZ w64 (ofZ w64 (w s)) ≡ w s
+w-read s = read (w s) (omega (arith, w-small s))
+
+-- what both walks over the neighbours ask
+count-few : (s : tie.Start) → s .args .near .count ≤ 64
+count-few s = omega (arith, near-count (before s) (s .args .i) (s .args .near) (s .pre .4), few-neighbours (before s) (s .args .i), s .pre .2)
+
+below : (s : tie.Start) (k : ℕ) → getD (s .args .near .list) k 0 < 64
+below s = near-below (before s) (s .args .i) (s .args .near) (s .pre .4) (s .pre .2)
+
+weights-small : (s : tie.Start) → Small 2199023255552 (s .args .near .weights)
+weights-small s =
+    subst (λ (x : Near). Small 2199023255552 (x .weights)) (sym (s .pre .4)) (small-near (before s) (s .args .i) (record { each = s .pre .3 .edges }))
+
+-- what is left when the decision is dropped
+abbrev start : tie.After-drop-to → tie.Start
+start c = c .before .before .before .before .before
+
+abbrev after : tie.After-drop-to → Graph
+after c = held (c .drop-to .result) (c .drop-to .last .0) (c .drop-to .last .1 .0)
+
+linear-small : (c : tie.After-drop-to) → Small 1099511627776 (c .drop-to .last .0)
+linear-small c = dropped-linear 3 (start c .args .i) (before (start c)) (after c) (c .drop-to .ensures) (start c .pre .3)
+
+edges-small : (c : tie.After-drop-to) → Small (2 ^ 50) (c .drop-to .last .1 .0)
+edges-small c = small-more (2 ^ 50) (dropped-edges 3 (start c .args .i) (before (start c)) (after c) (c .drop-to .ensures) (start c .pre .3)) (omega arith)
+
+add-constant-requires : tie.Need-add-constant-requires
+add-constant-requires c κs =
+    let d = c .before in
+    let s = start d in
+    rw (a-read s)
+    (sum-fits (d .drop-to .result .constant) (a s) (omega (arith, dropped-constant 3 (s .args .i) (before s) (after d) (d .drop-to .ensures) (s .pre .3))) (omega (arith, a-small s)))
+
+sub-add-linear : tie.Need-sub-add-linear
+sub-add-linear c = let s = start (c .before .before .before) in minus-fits (a s) (omega (arith, a-small s))
+
+add-linear-requires : tie.Need-add-linear-requires
+add-linear-requires c κs =
+    let d = c .before .before .before in
+    let s = start d in
+    rw (minus (a s) (omega (arith, a-small s)))
+    (s .pre .1, gain-fits (s .args .j) (negℤ (a s)) (linear-small d) (omega arith) (omega (arith, minus-at-most (a s) (a-small s))))
+
+turn-edges-requires : tie.Need-turn-edges-requires
+turn-edges-requires c κs =
+    let d = c .before .before .before .before .before .before in
+    let s = start d in
+    let e = rw (minus (a s) (omega (arith, a-small s))) at (c .before .before .add-linear .ensures) in
+    (s .pre .1, count-few s, below s, weights-small s, subst (Small (2 ^ 50)) (sym e) (small-more (2 ^ 50) (small-gain (s .args .j) (negℤ (a s)) (linear-small d) (minus-at-most (a s) (a-small s))) (omega arith)), edges-small d)
+
+returns : tie.Need-returns
+returns c =
+    let d = c .before .before .before .before .before .before .before .before in
+    let s = start d in
+    let g = before s in
+    let q : positive g (s .args .i) (s .args .j) ≡ true = rw (w-read s) at (c .before .before .before .before .before .before .before .if1 .taken) in (
+      by-turning g (s .args .i) (s .args .j) (d .drop-to .result) (d .drop-to .last .0) (c .before .before .before .before .add-linear .last .0) (d .drop-to .last .1 .0) (d .drop-to .ensures)
+          (c .before .before .before .before .before .before .add-constant .result) (c .before .turn-edges .last .0) (c .before .turn-edges .last .1 .0) q
+          (rw (a-read s) at (c .before .before .before .before .before .before .add-constant .ensures))
+          (rw (minus (a s) (omega (arith, a-small s))) at (c .before .before .before .before .add-linear .ensures))
+          (c .before .turn-edges .ensures g (s .args .i) (s .pre .4)),
+      step-by g (s .args .i) (s .args .j) true (c .step-over .result) q (c .step-over .ensures),
+    )
+
+-- the sum that j gains where it takes the decision's part
+sum-small : (s : tie.Start) → ∣ a s +ℤ w s ∣ ≤ 2 ^ 43
+sum-small s = plus (a s) (w s) (a-small s) (w-small s)
+  where
+    plus : (x y : ℤ) → ∣ x ∣ ≤ 1099511627776 → ∣ y ∣ ≤ 2199023255552 → ∣ x +ℤ y ∣ ≤ 2 ^ 43
+    plus x y h k = simp ints (omega arith)
+
+add-add-linear : tie.Need-add-add-linear
+add-add-linear c =
+    let s = start (c .before .before) in
+    rw (a-read s, w-read s) (sum-fits (a s) (w s) (omega (arith, a-small s)) (omega (arith, w-small s)))
+
+gain : (s : tie.Start) → toZ w64 (ofZ w64 (toZ w64 (ofZ w64 (a s)) +ℤ toZ w64 (ofZ w64 (w s)))) ≡ a s +ℤ w s
+gain s = rw (a-read s, w-read s) (read (a s +ℤ w s) (omega (arith, sum-small s)))
+
+add-linear-requires-2 : tie.Need-add-linear-requires-2
+add-linear-requires-2 c κs =
+    let d = c .before .before in
+    let s = start d in
+    rw (gain s) (s .pre .1, gain-fits (s .args .j) (a s +ℤ w s) (linear-small d) (omega arith) (omega (arith, sum-small s)))
+
+move-edges-requires : tie.Need-move-edges-requires
+move-edges-requires c κs =
+    let d = c .before .before .before .before in
+    let s = start d in
+    (s .pre .1, count-few s, below s, weights-small s, edges-small d)
+
+returns-2 : tie.Need-returns-2
+returns-2 c =
+    let d = c .before .before .before .before .before .before in
+    let s = start d in
+    let g = before s in
+    let q : positive g (s .args .i) (s .args .j) ≡ false = rw (w-read s) at (c .before .before .before .before .before .if1 .left) in (
+      by-moving g (s .args .i) (s .args .j) (d .drop-to .result) (d .drop-to .last .0) (c .before .before .before .add-linear2 .last .0) (d .drop-to .last .1 .0) (d .drop-to .ensures)
+          (c .before .move-edges .last .0) q (rw (gain s) at (c .before .before .before .add-linear2 .ensures)) (c .before .move-edges .ensures g (s .args .i) (s .pre .4)),
+      step-by g (s .args .i) (s .args .j) false (c .step-over2 .result) q (c .step-over2 .ensures),
+    )
+
+pub contract-spec : {M : Type 1} → statement M
+contract-spec =
+    tie.close
+    (tie.spec
+    (λ c. search needs)
+    (λ c. search needs)
+    (λ c. search needs)
+    (λ c. search needs)
+    (λ c. search needs)
+    (λ c. search needs)
+    (λ c κs. search needs)
+    add-constant-requires
+    sub-add-linear
+    add-linear-requires
+    turn-edges-requires
+    (λ c κs. search needs)
+    returns
+    add-add-linear
+    add-linear-requires-2
+    move-edges-requires
+    (λ c κs. search needs)
+    returns-2)

@@ -1,0 +1,52 @@
+use Rattle.dominant_edge.specs.Answer.{verdictOf, testOf}
+use Rattle.dominant_edge.specs.declared.Test.{Test}
+use Rattle.whole.specs.Ints.{ints, zarith, rd}
+use lib.IntN.{ℤ, pos, _+ℤ_, _-ℤ_}
+use lib.Signed.{ltZ}
+use mathlib.Core.Bool.{Bool, true, false, cond}
+use mathlib.Core.Path.{_≡_, sym, ap, _∙_}
+use native.Mathlib.Omega.{arith}
+use borrow.Author.Needs.{needs}
+use Rattle.dominant_edge.proofs.test_edge.Statement.{statement}
+use Rattle.dominant_edge.proofs.test_edge.Tie as tie
+
+sub-verdict : tie.Need-sub-verdict
+sub-verdict c = let s = c .before in rw (rd (s .fits .hi), rd (s .fits .w)) (simp ints (omega zarith))
+
+add-verdict : tie.Need-add-verdict
+add-verdict c = let s = c .before in rw (rd (s .fits .lo), rd (s .fits .w)) (simp ints (omega zarith))
+
+add-verdict-2 : tie.Need-add-verdict-2
+add-verdict-2 c = let s = c .before in rw (rd (s .fits .hi), rd (s .fits .w)) (simp ints (omega zarith))
+
+sub-verdict-2 : tie.Need-sub-verdict-2
+sub-verdict-2 c = let s = c .before in rw (rd (s .fits .lo), rd (s .fits .w)) (simp ints (omega zarith))
+
+-- the arm that the edge's sign takes
+arm : (t : Bool) (lo hi w : ℤ) (r : Test) → ltZ (pos 0) w ≡ t → r ≡ cond t (verdictOf (hi -ℤ w) (lo +ℤ w)) (verdictOf (hi +ℤ w) (lo -ℤ w)) → r ≡ testOf lo hi w
+arm t lo hi w r e h = h ∙ sym (ap (λ (b : Bool). cond b (verdictOf (hi -ℤ w) (lo +ℤ w)) (verdictOf (hi +ℤ w) (lo -ℤ w))) e)
+
+returns : tie.Need-returns
+returns c =
+    let s = c .before .before in
+    arm true (s .args .lo) (s .args .hi) (s .args .w) (c .verdict .result) (rw (rd (s .fits .w)) at (c .before .if1 .taken))
+    (rw (rd (sub-verdict (c .before)), rd (add-verdict (c .before)), rd (s .fits .hi), rd (s .fits .lo), rd (s .fits .w)) at (c .verdict .ensures))
+
+returns-2 : tie.Need-returns-2
+returns-2 c =
+    let s = c .before .before in
+    arm false (s .args .lo) (s .args .hi) (s .args .w) (c .verdict2 .result) (rw (rd (s .fits .w)) at (c .before .if1 .left))
+    (rw (rd (add-verdict-2 (c .before)), rd (sub-verdict-2 (c .before)), rd (s .fits .hi), rd (s .fits .lo), rd (s .fits .w)) at (c .verdict2 .ensures))
+
+pub test-edge-spec : {M : Type 1} → statement M
+test-edge-spec =
+    tie.close
+    (tie.spec
+    sub-verdict
+    add-verdict
+    (λ c κs. search needs)
+    returns
+    add-verdict-2
+    sub-verdict-2
+    (λ c κs. search needs)
+    returns-2)

@@ -1,0 +1,32 @@
+use Rattle.low_degree.specs.Table.{stepFrom, choicesOf}
+use Rattle.low_degree.specs.TableLaws.{few-masks}
+use mathlib.Core.Path.{_≡_, ap, _∙_}
+use native.Mathlib.Omega.{arith}
+use Prim.Native.Nat.{ℕ, _^_, _≤_}
+use borrow.Author.Needs.{needs}
+use Rattle.low_degree.proofs.step_of.Statement.{statement}
+use Rattle.low_degree.proofs.step_of.Tie as tie
+
+choices-requires : tie.Need-choices-requires
+choices-requires c κs =
+    let d = c .before .before .args .near .count in
+    omega (arith, c .masks .ensures, few-masks d (omega arith))
+
+returns : tie.Need-returns
+unfolding stepFrom
+returns c =
+    let a = c .before .before .before .args in
+    rw (c .choices .ensures ∙ ap (choicesOf (a .deltas)) (c .before .masks .ensures))
+
+pub step-of-spec : {M : Type 1} → statement M
+step-of-spec =
+    tie.close
+    (tie.spec
+    (λ c κs. search needs)
+    choices-requires
+    (λ c. search needs)
+    (λ c. search needs)
+    (λ c. search needs)
+    (λ c. search needs)
+    (λ c. search needs)
+    returns)

@@ -1,0 +1,34 @@
+-- The table of a decision's deltas, one entry a mask of at most three neighbours, and what is read from it.
+-- Assumes nothing.
+use mathlib.Core.List.{List, [], _∷_}
+use Prim.Native.Nat.{ℕ, _^_}
+use lib.ListN.{getD}
+use lib.IntN.{ℤ, pos, _+ℤ_}
+use lib.Signed.{ltZ}
+use Rattle.whole.specs.Words.{tab, chosen, bitsFrom, below0}
+use Rattle.graph.specs.declared.Near.{Near}
+use Rattle.rules.specs.declared.Step.{Step}
+
+-- the first three weights; a missing one is 0, so that one table serves every degree
+abbrev pub three : List ℤ → List ℤ
+three ws = getD ws 0 (pos 0) ∷ getD ws 1 (pos 0) ∷ getD ws 2 (pos 0) ∷ []
+
+unfoldable pub deltasOf : ℤ → List ℤ → List ℤ
+deltasOf a ws = tab (λ m. a +ℤ chosen (three ws) m) 8
+
+unfoldable pub teesOf : List ℤ → List ℤ
+teesOf ds = tab (λ m. below0 (getD ds m (pos 0))) 8
+
+-- the choices for the first c masks
+unfoldable pub choicesOf : List ℤ → ℕ → ℕ
+choicesOf ds c = bitsFrom (λ m. ltZ (getD ds m (pos 0)) (pos 0)) 0 c
+
+unfoldable pub stepFrom : ℕ → Near → List ℤ → Step
+stepFrom i near ds = record {
+  decision = i;
+  degree = near .count;
+  first = getD (near .list) 0 0;
+  second = getD (near .list) 1 0;
+  third = getD (near .list) 2 0;
+  choices = choicesOf ds (2 ^ near .count);
+}

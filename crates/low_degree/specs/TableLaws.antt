@@ -1,0 +1,97 @@
+-- The table of masks is the rules' own, for every degree up to three.
+-- Assumes nothing.
+use mathlib.Core.Path.{_≡_, refl, sym, ap, ap₂, _∙_}
+use mathlib.Core.Bool.{Bool, true, false, cond}
+use mathlib.Core.List.{List, [], _∷_, _++_}
+use Prim.Native.Nat.{ℕ, zero, suc, _+_, _*_, _/_, _^_, _<_, _≤_}
+use native.Mathlib.Omega.{arith}
+use native.Mathlib.Nat.{pow-le-pow-right}
+use lib.ListN.{length, getD}
+use lib.IntN.{ℤ, pos, _+ℤ_}
+use lib.Signed.{ltZ}
+use Rattle.whole.specs.Parts.{∣_∣}
+use Rattle.whole.specs.Ints.{ints}
+use Rattle.whole.specs.Cmp.{below0-abs}
+use Rattle.whole.specs.Words.{tab, odd, chosen, bitsFrom, oneIf, below0}
+use Rattle.whole.specs.Lists.{tab-at}
+use Rattle.rules.specs.Graph.{Graph, lin, edge, neighbours, row}
+use Rattle.rules.specs.Eliminate.{delta, chooses, tee, stepOf}
+use Rattle.rules.specs.Record.{hold}
+use Rattle.rules.specs.Size.{Within}
+use Rattle.graph.specs.Near.{nearOf}
+use Rattle.graph.specs.NearLaws.{length-map, near-count, near-list, near-weights}
+use Rattle.graph.specs.Small.{map-at-most}
+use Rattle.graph.specs.declared.Near.{Near}
+use Rattle.low_degree.specs.Table.{three, deltasOf, teesOf, choicesOf, stepFrom}
+
+-- ---- over the degree: a missing neighbour's weight is 0
+none : (t : Bool) → cond t (pos 0) (pos 0) ≡ pos 0
+none true = refl
+none false = refl
+
+chosen-three : (ws : List ℤ) (m : ℕ) → length ws ≤ 3 → chosen (three ws) m ≡ chosen ws m
+unfolding chosen
+chosen-three [] m h = rw (none (odd m), none (odd (m / 2)), none (odd (m / 2 / 2)))
+chosen-three (x ∷ []) m h = rw (none (odd (m / 2)), none (odd (m / 2 / 2)))
+chosen-three (x ∷ y ∷ []) m h = rw (none (odd (m / 2 / 2)))
+chosen-three (x ∷ y ∷ z ∷ []) m h = refl
+chosen-three (x ∷ y ∷ z ∷ w ∷ ws) m h = absurd (omega arith)
+
+three-same : (xs ys : List ℤ) → ((k : ℕ) → getD xs k (pos 0) ≡ getD ys k (pos 0)) → three xs ≡ three ys
+three-same xs ys h = rw (h 0, h 1, h 2)
+
+-- ---- lists and masks that are made by a rule
+tab-same : {A : Type 0} (f h : ℕ → A) (n : ℕ) → ((m : ℕ) → m < n → f m ≡ h m) → tab f n ≡ tab h n
+unfolding tab
+tab-same f h zero e = refl
+tab-same f h (suc n) e = ap₂ (λ xs x. xs ++ (x ∷ [])) (tab-same f h n (λ m l. e m (omega arith))) (e n (omega arith))
+
+bits-alike : (f h : ℕ → Bool) (b c : ℕ) → ((m : ℕ) → m < b + c → f m ≡ h m) → bitsFrom f b c ≡ bitsFrom h b c
+unfolding bitsFrom
+bits-alike f h b zero e = refl
+bits-alike f h b (suc c) e = ap₂ (λ (t : Bool) r. oneIf t * 2 ^ b + r) (e b (omega arith)) (bits-alike f h (suc b) c (λ m l. e m (omega arith)))
+
+-- the chosen weights of a list whose weights are small
+chosen-small : (ws : List ℤ) (m : ℕ) → ((k : ℕ) → ∣ getD ws k (pos 0) ∣ ≤ 2199023255552) → ∣ chosen ws m ∣ ≤ length ws * 2199023255552
+unfolding chosen
+chosen-small [] m h = omega arith
+chosen-small (w ∷ ws) m h = go (odd m) (chosen ws (m / 2)) (chosen-small ws (m / 2) (λ k. h (suc k)))
+  where
+    go : (t : Bool) (r : ℤ) → ∣ r ∣ ≤ length ws * 2199023255552 → ∣ cond t w (pos 0) +ℤ r ∣ ≤ suc (length ws) * 2199023255552
+    go true r k = let d = h 0 in simp ints (omega arith)
+    go false r k = simp ints (omega arith)
+
+pub few-masks : (d : ℕ) → d ≤ 3 → 2 ^ d ≤ 8
+few-masks d h = pow-le-pow-right {n = 2} (omega arith) h
+
+module _ (g : Graph) (i : ℕ) (near : Near) (is : near ≡ nearOf g i) (few : near .count ≤ 3) where
+  row-few : length (row g i (neighbours g i)) ≤ 3
+  row-few = omega (arith, near-count g i near is, length-map (λ j. edge g i j) (neighbours g i))
+
+  pub deltas-table : deltasOf (lin g i) (near .weights) ≡ tab (delta g i) 8
+  unfolding deltasOf
+  deltas-table = tab-same (λ m. lin g i +ℤ chosen (three (near .weights)) m) (delta g i) 8
+      (λ m l. ap (λ (x : ℤ). lin g i +ℤ x) (ap (λ (ws : List ℤ). chosen ws m) (three-same (near .weights) (row g i (neighbours g i)) (near-weights g i near is)) ∙ chosen-three (row g i (neighbours g i)) m row-few))
+
+  pub tees-table : teesOf (tab (delta g i) 8) ≡ tab (tee g i) 8
+  unfolding teesOf
+  tees-table = tab-same (λ m. below0 (getD (tab (delta g i) 8) m (pos 0))) (tee g i) 8 (λ m l. ap (λ (x : ℤ). below0 x) (tab-at (delta g i) 8 m (pos 0) l))
+
+  pub choices-table : (c : ℕ) → c ≤ 8 → choicesOf (tab (delta g i) 8) c ≡ bitsFrom (chooses g i) 0 c
+  unfolding choicesOf
+  choices-table c h = bits-alike (λ m. ltZ (getD (tab (delta g i) 8) m (pos 0)) (pos 0)) (chooses g i) 0 c (λ m l. ap (λ (x : ℤ). ltZ x (pos 0)) (tab-at (delta g i) 8 m (pos 0) (omega arith)))
+
+  pub step-table : stepFrom i near (tab (delta g i) 8) ≡ hold (stepOf g i)
+  unfolding stepFrom stepOf
+  step-table =
+      let n = near-count g i near is in
+      let p : 2 ^ length (neighbours g i) ≤ 8 = few-masks (length (neighbours g i)) (omega arith) in
+      rw (n, near-list g i near is 0, near-list g i near is 1, near-list g i near is 2, choices-table (2 ^ length (neighbours g i)) p)
+
+  pub tee-small : Within g → (m : ℕ) → ∣ tee g i m ∣ ≤ 2 ^ 43
+  tee-small w m =
+      let s = chosen-small (row g i (neighbours g i)) m (λ k. map-at-most 2199023255552 (λ j. edge g i j) (neighbours g i) k (λ j. w .edges (64 * i + j))) in
+      let r = row-few in
+      let a = w .linear i in
+      let d : ∣ delta g i m ∣ ≤ 2 ^ 43 = simp ints (omega arith) in
+      omega (arith, below0-abs (delta g i m))

@@ -1,0 +1,62 @@
+-- The refusals' table: the first row that holds.
+-- Assumes nothing.
+use mathlib.Core.Path.{_≡_, refl, ap, _∙_}
+use mathlib.Core.Bool.{Bool, true, false, not, _&&_}
+use mathlib.Core.List.{List, [], _∷_}
+use Prim.Native.Nat.{ℕ, suc}
+use lib.Dec.{eqb}
+use lib.ListN.{length}
+use borrow.Author.Tests.{eq-eqb, ne-eqb}
+use Rattle.rules.specs.Refuse.{firstRow, readRefusal, writeRefusal}
+use Rattle.rules.specs.Record.{recordIn, noRecord, blockOf}
+use Rattle.rules.specs.Call.{unless, reading, blockAfter}
+use Rattle.rules.specs.declared.Record.{Record}
+use Rattle.rules.specs.declared.Reading.{Reading}
+
+pub row-hit : (k : ℕ) (t : Bool) (rs : List (ℕ × Bool)) → t ≡ true → k ≡ firstRow ((k, t) ∷ rs)
+unfolding firstRow
+row-hit k t rs e = rw e
+
+pub row-skip : (k : ℕ) (t : Bool) (rs : List (ℕ × Bool)) {r : ℕ} → t ≡ false → r ≡ firstRow rs → r ≡ firstRow ((k, t) ∷ rs)
+unfolding firstRow
+row-skip k t rs e h = rw e h
+
+pub row-none : 0 ≡ firstRow []
+unfolding firstRow
+row-none = refl
+
+pub unlike : (m k : ℕ) → (m ≡ k → ⊥) → not (eqb m k) ≡ true
+unlike m k n = rw (ne-eqb m k n)
+
+pub alike : (m k : ℕ) → m ≡ k → not (eqb m k) ≡ false
+alike m k e = rw (eq-eqb m k e)
+
+-- a body is broken by a byte that no field holds, or by the record
+pub zeros-wrong : (z s : Bool) → z ≡ false → not (z && s) ≡ true
+zeros-wrong z s e = rw e
+
+pub record-wrong : (z s : Bool) {t : Bool} → z ≡ true → not s ≡ t → not (z && s) ≡ t
+record-wrong z s e h = rw e h
+
+-- what reading gives, from its number
+pub no-reading : (b : List ℕ) (k : ℕ) (r : Reading) → suc k ≡ readRefusal b → (r .answer ≡ suc k) × (r .«record» ≡ noRecord) → r ≡ reading b
+unfolding reading
+no-reading b k r e h =
+    let p : r .answer ≡ readRefusal b = h .0 ∙ e in
+    let q : r .«record» ≡ unless (readRefusal b) (recordIn b) noRecord = h .1 ∙ ap (λ (n : ℕ). unless n (recordIn b) noRecord) e in
+    λ i. record { answer = p i; «record» = q i }
+
+pub one-reading : (b : List ℕ) (r : Record) → 0 ≡ readRefusal b → r ≡ recordIn b → record { answer = 0; «record» = r } ≡ reading b
+unfolding reading
+one-reading b r e h =
+    let q : r ≡ unless (readRefusal b) (recordIn b) noRecord = h ∙ ap (λ (n : ℕ). unless n (recordIn b) noRecord) e in
+    λ i. record { answer = e i; «record» = q i }
+
+-- and what writing leaves, from its number
+pub kept-block : (r : Record) (l : List ℕ) (k : ℕ) → suc k ≡ writeRefusal r (length l) → l ≡ blockAfter r l
+unfolding blockAfter
+kept-block r l k e = ap (λ (n : ℕ). unless n (blockOf r) l) e
+
+pub done-block : (r : Record) (l m : List ℕ) → 0 ≡ writeRefusal r (length l) → m ≡ blockOf r → m ≡ blockAfter r l
+unfolding blockAfter
+done-block r l m e h = h ∙ ap (λ (n : ℕ). unless n (blockOf r) l) e

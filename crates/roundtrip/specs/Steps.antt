@@ -1,0 +1,45 @@
+-- A run's steps in a record, and back.
+-- Assumes nothing.
+use mathlib.Core.Path.{_≡_, refl, ap, _∙_}
+use mathlib.Core.List.{List, [], _∷_, _++_, map}
+use Prim.Native.Nat.{ℕ, _-_, _≤_}
+use native.Mathlib.Omega.{arith}
+use lib.ListN.{length, getD, take, replicate, length-map}
+use lib.Seq.{take-at}
+use lib.IntN.{ℤ}
+use Rattle.rules.specs.Eliminate as rule
+use Rattle.rules.specs.Record.{hold, holdAll, played, recordOf, stepsOf, statesOf, noStep}
+
+-- each step looks at no more than three neighbours
+abbrev pub Few : List rule.Step → Type 0
+Few [] = Unit
+Few (s ∷ ss) = (length (s .near) ≤ 3) × Few ss
+
+pub few-append : (ss ts : List rule.Step) → Few ss → Few ts → Few (ss ++ ts)
+few-append [] ts f g = g
+few-append (s ∷ ss) ts f g = (f .0, few-append ss ts (f .1) g)
+
+three : (l : List ℕ) → length l ≤ 3 → take (length l) (getD l 0 0 ∷ getD l 1 0 ∷ getD l 2 0 ∷ []) ≡ l
+three [] h = refl
+three (x ∷ []) h = refl
+three (x ∷ y ∷ []) h = refl
+three (x ∷ y ∷ z ∷ []) h = refl
+three (x ∷ y ∷ z ∷ w ∷ l) h = absurd (omega arith)
+
+pub played-hold : (s : rule.Step) → length (s .near) ≤ 3 → played (hold s) ≡ s
+played-hold s h = ap (λ (l : List ℕ). rule.step (s .decision) l (s .choices)) (three (s .near) h)
+
+pub played-all : (ss : List rule.Step) → Few ss → map played (map hold ss) ≡ ss
+played-all [] f = refl
+played-all (s ∷ ss) f = λ i. played-hold s (f .0) i ∷ played-all ss (f .1) i
+
+-- the record of a step list has that list for its steps, and the states of its n decisions
+pub steps-of-record : (n : ℕ) (c : ℤ) (states : List ℕ) (steps : List rule.Step) → Few steps → stepsOf (recordOf n c states steps) ≡ steps
+unfolding stepsOf holdAll
+steps-of-record n c states steps f =
+    ap (map played) (take-at (map hold steps) (replicate (64 - length steps) noStep) (length steps) (length-map steps hold))
+    ∙ played-all steps f
+
+pub states-of-record : (n : ℕ) (c : ℤ) (states : List ℕ) (steps : List rule.Step) → statesOf (recordOf n c states steps) ≡ take n states
+unfolding statesOf
+states-of-record n c states steps = refl

@@ -1,0 +1,172 @@
+-- A run begins in order, and everything due keeps it: so every state of it is in order, and its arrays have room.
+-- Assumes nothing.
+use mathlib.Core.Path.{_≡_, refl, subst}
+use mathlib.Core.Bool.{Bool, true, false}
+use mathlib.Core.List.{List, [], _∷_, _++_}
+use Prim.Native.Nat.{ℕ, _+_, _<_, _≤_}
+use native.Mathlib.Omega.{arith}
+use lib.ListN.{length, length-append}
+use Rattle.whole.specs.Words.{oneIf}
+use Rattle.whole.specs.Pigeon.{Apart, pigeon}
+use Rattle.whole.specs.Members.{apart-tail}
+use Rattle.rules.specs.Objective.{Objective}
+use Rattle.rules.specs.Graph.{Graph, neighbours}
+use Rattle.rules.specs.Fixing.{start}
+use Rattle.rules.specs.Size.{Within}
+use Rattle.rules.specs.Eliminate.{Step, stepOf, eliminate}
+use Rattle.rules.specs.DegreeThree.{eliminate3}
+use Rattle.rules.specs.DominantEdge.{weak, contract, contractStep}
+use Rattle.rules.specs.SmallBlock.{eliminateBlock, blockSteps}
+use Rattle.rules.specs.Run.{Tally, tally, plus, State, waiting, Way, inactive, low, into, three, failed, idle, way, join, reduced, skipped, go, takeFront, blocked, due, next, run, begin, ended}
+use Rattle.meaning.specs.Growth.{in-nbrs}
+use Rattle.meaning.specs.Stands.{Fine}
+use Rattle.meaning.specs.Found.{found-block}
+use Rattle.accepted.specs.Accept.{Fit}
+use Rattle.sound_run.specs.Sound.{Sound}
+use Rattle.sound_run.specs.SoundRun.{run-sound, begin-sound}
+use Rattle.sound_run.specs.SoundStart.{start-stands}
+use Rattle.size_rule.specs.RunWithin.{reduced-within}
+use Rattle.run_laws.specs.DueLaws.{Due, take, block, next-due, run-one, run-keeps}
+use Rattle.run_laws.specs.QueueLaws.{waiting-apart, apart-wider, join-apart}
+use Rattle.run_laws.specs.StepLaws.{steps-few, block-steps-length}
+use Rattle.run_laws.specs.InOrder.{Counted, InOrder, Room}
+
+-- ---- the counts
+one-more : (steps : List Step) (s : Step) → length (steps ++ s ∷ []) ≡ length steps + 1
+one-more steps s = length-append steps (s ∷ [])
+
+at-most-one : (b : Bool) → oneIf b ≤ 1
+at-most-one true = omega arith
+at-most-one false = omega arith
+
+-- what a reduction of one decision counts
+record One (c : Tally) : Type 0 where
+  step : c .eliminated + c .contracted ≡ 1
+  others : c .skipped + c .inBlocks ≡ 0
+  three : c .three ≤ c .eliminated
+  weakly : c .weakly ≤ c .contracted
+
+module _ (sw i : ℕ) (q : List ℕ) (s : State) (k : Counted s) where
+  reduced-counted : (g : Graph) (step : Step) (c : Tally) → One c → Counted (reduced sw (takeFront q s) i g step c)
+  unfolding reduced takeFront plus
+  reduced-counted g step c o = record {
+    steps = omega (arith, k .steps, o .step, o .others, one-more (s .steps) step);
+    three = omega (arith, k .three, o .three);
+    weakly = omega (arith, k .weakly, o .weakly);
+    takes = omega (arith, k .takes, o .step, o .others);
+    blocks = omega (arith, k .blocks);
+  }
+
+  passed-counted : Counted (takeFront q s)
+  unfolding takeFront
+  passed-counted = record { steps = k .steps; three = k .three; weakly = k .weakly; takes = omega (arith, k .takes); blocks = k .blocks }
+
+  take-counted : (w : Way) → Counted (go w sw i (takeFront q s))
+  unfolding go skipped takeFront plus
+  take-counted inactive = passed-counted
+  take-counted low = reduced-counted (eliminate i (s .graph)) (stepOf (s .graph) i) (tally 1 0 0 0 0 0) (record { step = refl; others = refl; three = omega arith; weakly = omega arith })
+  take-counted (into j) =
+      reduced-counted (contract i j (s .graph)) (contractStep i j (s .graph)) (tally 0 0 0 1 (oneIf (weak (s .graph) i j)) 0)
+      (record { step = refl; others = refl; three = omega arith; weakly = at-most-one (weak (s .graph) i j) })
+  take-counted three = reduced-counted (eliminate3 i (s .graph)) (stepOf (s .graph) i) (tally 1 1 0 0 0 0) (record { step = refl; others = refl; three = omega arith; weakly = omega arith })
+  take-counted failed = record {
+    steps = omega (arith, k .steps);
+    three = omega (arith, k .three);
+    weakly = omega (arith, k .weakly);
+    takes = omega (arith, k .takes);
+    blocks = omega (arith, k .blocks);
+  }
+  take-counted idle = passed-counted
+
+block-counted : (sw : ℕ) (b : List ℕ) (s : State) → 2 ≤ length b → Counted s → Counted (blocked sw b s)
+unfolding blocked plus
+block-counted sw b s two c = record {
+  steps = omega (arith, c .steps, length-append (s .steps) (blockSteps (s .graph) b 0 b), block-steps-length (s .graph) b 0 b);
+  three = omega (arith, c .three);
+  weakly = omega (arith, c .weakly);
+  takes = omega (arith, c .takes);
+  blocks = omega (arith, c .blocks);
+}
+
+-- ---- the queue
+module _ {n : ℕ} (sw i : ℕ) (q : List ℕ) (s : State) (same : s .graph .n ≡ n) (a : Apart n q) where
+  joined : (g : Graph) → Apart n (join sw g (neighbours (s .graph) i) q)
+  joined g = join-apart sw g (neighbours (s .graph) i) q (λ k m. subst (λ (l : ℕ). k < l) same (in-nbrs (s .graph) i k m .0)) a
+
+  take-queue : (w : Way) → Apart n (go w sw i (takeFront q s) .queue)
+  unfolding go reduced skipped takeFront
+  take-queue inactive = a
+  take-queue low = joined (eliminate i (s .graph))
+  take-queue (into j) = joined (contract i j (s .graph))
+  take-queue three = joined (eliminate3 i (s .graph))
+  take-queue failed = a
+  take-queue idle = a
+
+-- ---- the state
+module _ (g : Graph) where
+  pub begin-in-order : (sw : ℕ) → Fine g → InOrder g (begin sw g)
+  unfolding begin
+  begin-in-order sw f = record {
+    sound = begin-sound g sw f;
+    queue = waiting-apart sw g;
+    counted = record { steps = refl; three = omega arith; weakly = omega arith; takes = omega arith; blocks = omega arith };
+  }
+
+  next-sound : (sw : ℕ) (s t : State) → next sw s ≡ due t → Sound g (s .steps) (s .graph) → Sound g (t .steps) (t .graph)
+  next-sound sw s t e r = subst (λ (u : State). Sound g (u .steps) (u .graph)) (run-one sw s t e) (run-sound g 1 sw s r)
+
+  -- everything due keeps a state in order
+  pub next-in-order : (sw : ℕ) (s t : State) → next sw s ≡ due t → InOrder g s → InOrder g t
+  unfolding blocked
+  next-in-order sw s t e o = kept t (next-due sw s t e) (next-sound sw s t e (o .sound))
+    where
+      kept : (t : State) → Due sw s t → Sound g (t .steps) (t .graph) → InOrder g t
+      kept t (take {i} {q} h) r = record {
+        sound = r;
+        queue = take-queue sw i q s (o .sound .stands .size) (apart-tail (subst (Apart (g .n)) h (o .queue))) (way sw (s .graph) i);
+        counted = take-counted sw i q s (o .counted) (way sw (s .graph) i);
+      }
+      kept t (block {b} h on f) r = record {
+        sound = r;
+        queue = subst (λ (n : ℕ). Apart n (waiting sw (eliminateBlock b (s .graph)))) (r .stands .size) (waiting-apart sw (eliminateBlock b (s .graph)));
+        counted = block-counted sw b s (found-block (s .graph) b (o .sound .stands .fine .shaped) f .two) (o .counted);
+      }
+
+  -- so every state of a run is in order, at every budget
+  pub run-in-order : (b sw : ℕ) → Fine g → InOrder g (run b sw (begin sw g) .state)
+  run-in-order b sw f = run-keeps sw (InOrder g) (next-in-order sw) b (begin sw g) (begin-in-order sw f)
+
+  -- and has room
+  pub in-order-steps : {s : State} → InOrder g s → length (s .steps) ≤ g .n
+  in-order-steps {s} o = steps-few (g .n) (g .states) (s .steps) (o .sound .taken)
+
+  pub in-order-room : {s : State} → InOrder g s → Room s
+  in-order-room {s} o =
+      let few : s .graph .n ≤ 64 = o .sound .stands .fine .shaped .few in
+      let same : s .graph .n ≡ g .n = o .sound .stands .size in
+      let steps : length (s .steps) ≤ g .n = in-order-steps o in
+      let c : Counted s = o .counted in
+      record {
+        n = few;
+        queue = omega (arith, pigeon (g .n) (o .queue));
+        waiting = apart-wider (omega arith) (o .queue);
+        steps = omega arith;
+        eliminated = omega (arith, c .steps);
+        three = omega (arith, c .steps, c .three);
+        contracted = omega (arith, c .steps);
+        weakly = omega (arith, c .steps, c .weakly);
+        inBlocks = omega (arith, c .steps);
+        blocks = omega (arith, c .steps, c .blocks);
+        skipped = omega (arith, c .takes);
+      }
+
+-- of an objective that is not refused
+pub in-order-within : (o : Objective) → Fit o → {s : State} → InOrder (start o) s → Within (s .graph)
+in-order-within o fit h = reduced-within o fit (h .sound)
+
+pub ended-in-order : (o : Objective) → Fit o → InOrder (start o) (ended o .state)
+unfolding ended
+ended-in-order o fit = run-in-order (start o) (o .budget) (o .switches) (start-stands o fit .fine)
+
+pub ended-room : (o : Objective) → Fit o → Room (ended o .state)
+ended-room o fit = in-order-room (start o) (ended-in-order o fit)

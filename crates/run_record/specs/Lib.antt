@@ -1,0 +1,4 @@
+pub mod HeldSteps
+pub mod RunRecord
+pub mod ByCalls
+pub mod ByBlock

@@ -1,0 +1,90 @@
+-- Turns of the loops that fill the queue.
+use mathlib.Core.Path.{_≡_, refl, ap, ap₂, sym, _∙_}
+use mathlib.Core.Bool.{Bool, true, false, cond, not, _&&_, _||_}
+use mathlib.Core.List.{List, [], _∷_, _++_, append-nil, append-assoc}
+use Prim.Native.Nat.{ℕ, zero, suc, _+_, _-_, _<_, _≤_}
+use native.Mathlib.Omega.{arith}
+use native.Mathlib.Numerals.{add-one}
+use lib.Seq.{drop-cons}
+use lib.ListN.{length, getD, drop, drop-of-length-le}
+use borrow.Author.Tests.{eq-eqb, ne-eqb}
+use Rattle.whole.specs.Words.{from, upto, mem, those}
+use Rattle.whole.specs.Tests.{refuse, clash}
+use Rattle.whole.specs.Members.{in-append, in-cons}
+use lib.Dec.{leb}
+use Rattle.rules.specs.Objective.{lowDegree, degreeThree, dominantEdge}
+use Rattle.rules.specs.Graph.{Graph, active, actives, degree}
+use Rattle.rules.specs.Run.{eligible, waiting, join}
+
+-- a decision joins where three tests hold
+module _ (sw : ℕ) (g : Graph) (xs : List ℕ) (j : ℕ) where
+  abbrev pub turn : List ℕ
+  turn = cond (active g j && not (mem j xs) && eligible sw g j) (xs ++ j ∷ []) xs
+
+  pub joined : getD (g .states) j 0 ≡ 2 → mem j xs ≡ false → eligible sw g j ≡ true → xs ++ j ∷ [] ≡ turn
+  joined p q r = rw (eq-eqb (getD (g .states) j 0) 2 p, q, r)
+
+  pub not-active : (getD (g .states) j 0 ≡ 2 → ⊥) → xs ≡ turn
+  not-active p = rw (ne-eqb (getD (g .states) j 0) 2 p)
+
+  pub already : getD (g .states) j 0 ≡ 2 → mem j xs ≡ true → xs ≡ turn
+  already p q = rw (eq-eqb (getD (g .states) j 0) 2 p, q)
+
+  pub not-eligible : getD (g .states) j 0 ≡ 2 → mem j xs ≡ false → eligible sw g j ≡ false → xs ≡ turn
+  not-eligible p q r = rw (eq-eqb (getD (g .states) j 0) 2 p, q, r)
+
+-- "dominant edge is on, or low degree is on and its degree" is low enough
+module _ (sw : ℕ) (g : Graph) (i : ℕ) where
+  pub by-dominant : dominantEdge sw ≡ true → true ≡ eligible sw g i
+  by-dominant e = ap (λ (t : Bool). t || (lowDegree sw && leb (degree g i) (cond (degreeThree sw) 3 2))) (sym e)
+
+  pub by-degree : dominantEdge sw ≡ false → lowDegree sw ≡ true → leb (degree g i) (cond (degreeThree sw) 3 2) ≡ eligible sw g i
+  by-degree e f = ap₂ (λ (s t : Bool). s || (t && leb (degree g i) (cond (degreeThree sw) 3 2))) (sym e) (sym f)
+
+  pub by-none : dominantEdge sw ≡ false → lowDegree sw ≡ false → false ≡ eligible sw g i
+  by-none e f = ap₂ (λ (s t : Bool). s || (t && leb (degree g i) (cond (degreeThree sw) 3 2))) (sym e) (sym f)
+
+-- ---- the two loops: over the decisions from i on, and over the rest of a list
+module _ (sw : ℕ) (g : Graph) where
+  pub join-turn : (n i : ℕ) (q r : List ℕ) → i < n → r ≡ turn sw g q i → join sw g (from i (n - i)) q ≡ join sw g (from (i + 1) (n - (i + 1))) r
+  unfolding join from
+  join-turn n i q r h e = let d : n - i ≡ suc (n - (i + 1)) = omega arith in rw (d, add-one, e)
+
+  pub join-end : (n i : ℕ) (q : List ℕ) → n ≤ i → join sw g (from i (n - i)) q ≡ q
+  unfolding join from
+  join-end n i q h = let d : n - i ≡ 0 = omega arith in rw d
+
+  pub join-next : (js : List ℕ) (k : ℕ) (q r : List ℕ) → k < length js → r ≡ turn sw g q (getD js k 0) → join sw g (drop k js) q ≡ join sw g (drop (k + 1) js) r
+  unfolding join
+  join-next js k q r h e = rw (add-one, drop-cons js k 0 h, e)
+
+  pub join-done : (js : List ℕ) (k : ℕ) (q : List ℕ) → length js ≤ k → join sw g (drop k js) q ≡ q
+  unfolding join
+  join-done js k q h = rw (drop-of-length-le js h)
+
+  -- a pass's queue is what joins an empty one, ascending: nobody comes twice
+  join-from : (c k : ℕ) (q : List ℕ) → ((j : ℕ) → mem j q ≡ true → j < k) → join sw g (from k c) q ≡ q ++ those (λ i. eligible sw g i) (those (λ i. active g i) (from k c))
+  unfolding join from those mem
+  join-from zero k q h = sym (append-nil q)
+  join-from (suc c) k q h =
+      by (active g k) (eligible sw g k) refl refl (join-from c (suc k) q (λ j m. let l : j < k = h j m in omega arith)) (join-from c (suc k) (q ++ k ∷ []) on)
+    where
+      new : mem k q ≡ false
+      new = refuse (mem k q) (λ m. let l : k < k = h k m in omega arith)
+
+      on : (j : ℕ) → mem j (q ++ k ∷ []) ≡ true → j < suc k
+      on j m = in-append j q (k ∷ []) m (λ a. let l : j < k = h j a in omega arith) (λ b. in-cons j k [] b (λ e. omega arith) (λ z. clash z refl))
+
+      rest : List ℕ
+      rest = those (λ i. active g i) (from (suc k) c)
+
+      by : (a e : Bool) → active g k ≡ a → eligible sw g k ≡ e → join sw g (from (suc k) c) q ≡ q ++ those (λ i. eligible sw g i) rest
+          → join sw g (from (suc k) c) (q ++ k ∷ []) ≡ (q ++ k ∷ []) ++ those (λ i. eligible sw g i) rest
+          → join sw g (from (suc k) c) (turn sw g q k) ≡ q ++ those (λ i. eligible sw g i) (cond (active g k) (k ∷ rest) rest)
+      by false e p r skip more = rw p skip
+      by true false p r skip more = rw (p, new, r) skip
+      by true true p r skip more = rw (p, new, r) (more ∙ append-assoc q (k ∷ []) (those (λ i. eligible sw g i) rest))
+
+  pub waiting-join : join sw g (upto (g .n)) [] ≡ waiting sw g
+  unfolding waiting actives mem
+  waiting-join = join-from (g .n) 0 [] (λ j m. clash m refl)

@@ -1,0 +1,104 @@
+// Which decisions wait: those that a pass queues, and those that join the back after a reduction.
+ghost use mathlib.Core.Path.{_≡_};
+ghost use mathlib.Core.Bool.{cond};
+ghost use mathlib.Core.List.{List};
+ghost use Prim.Native.Nat.{ℕ, _+_, _*_, _/_, _%_, _<_, _≤_};
+ghost use lib.Dec.{eqb};
+ghost use lib.ListN.{take, length, getD};
+ghost use Rattle.rules.specs.Objective.{degreeThree};
+ghost use Rattle.queue.specs.Items.{items, Kept};
+ghost use Rattle.waiting.specs.Joins.{Eligible, Waits, Joins, Listed};
+use graph::Near;
+use queue::Queue;
+
+// Is a switch on? Its place is 1, 2, 4 or 8.
+pub fn on(switches: u32, place: u32) -> bool
+    requires { ⌜ 0 < place ⌝ }
+    ensures { λ r. ⌜ r ≡ eqb (switches / place % 2) 1 ⌝ }
+{
+    switches / place % 2 == 1
+}
+
+// The highest degree that low degree takes.
+fn highest(switches: u32) -> usize
+    ensures { λ r. ⌜ r ≡ cond (degreeThree switches) 3 2 ⌝ }
+{
+    if on(switches, 2) {
+        return 3;
+    }
+    2
+}
+
+pub fn is_eligible(edges: &[i64; 4096], n: usize, switches: u32, i: usize) -> bool
+    requires { ⌜ (i < 64) × (n ≤ 64) ⌝ }
+    ensures { λ r. ⌜ Eligible r switches (now (edges .entry)) n i ⌝ }
+{
+    if on(switches, 4) {
+        return true;
+    }
+    if on(switches, 1) {
+        return graph::degree(edges, n, i) <= highest(switches);
+    }
+    false
+}
+
+// One joins the back if active, not waiting and now eligible.
+fn join_one(
+    edges: &[i64; 4096],
+    states: &[u8; 64],
+    n: usize,
+    switches: u32,
+    q: Queue,
+    j: usize,
+) -> Queue
+    requires { ⌜ (n ≤ 64) × (j < 64) × Kept q ⌝ }
+    ensures { λ r. ⌜ Kept r × Listed r q switches (now (edges .entry)) n (now (states .entry)) j ⌝ }
+{
+    if states[j] != 2 {
+        return q;
+    }
+    if q.waits(j) {
+        return q;
+    }
+    if is_eligible(edges, n, switches, j) {
+        return q.push(j);
+    }
+    q
+}
+
+// "A pass queues, ascending, every active decision that is eligible."
+pub fn first_queue(edges: &[i64; 4096], states: &[u8; 64], n: usize, switches: u32) -> Queue
+    requires { ⌜ n ≤ 64 ⌝ }
+    ensures { λ r. ⌜ Waits (items r) switches (now (edges .entry)) n (now (states .entry)) × Kept r ⌝ }
+{
+    let mut q = Queue::new();
+    let mut i: usize = 0;
+    while i < n {
+        q = join_one(edges, states, n, switches, q, i);
+        i = i + 1;
+    }
+    q
+}
+
+// "its neighbours as they were (ascending) join the back"
+pub fn rejoin(
+    edges: &[i64; 4096],
+    states: &[u8; 64],
+    n: usize,
+    switches: u32,
+    queue: Queue,
+    near: Near,
+) -> Queue
+    requires { ⌜ (n ≤ 64) × (near .count ≤ 64) × (length (near .list) ≡ 64) × ((k : ℕ) → getD (near .list) k 0 < 64) × Kept queue ⌝ }
+    ensures { λ r. ⌜ Joins r queue switches (now (edges .entry)) n (now (states .entry)) (take (near .count) (near .list)) × Kept r ⌝ }
+{
+    let count = near.count;
+    let mut q = queue;
+    let mut k: usize = 0;
+    while k < count {
+        let j = near.list[k] as usize;
+        q = join_one(edges, states, n, switches, q, j);
+        k = k + 1;
+    }
+    q
+}

@@ -1,0 +1,8 @@
+pub mod Puts
+pub mod Held
+pub mod WriteLaws
+pub mod Bounds
+pub mod Back
+pub mod Those
+pub mod HeldLaws
+pub mod CallLaws

@@ -1,0 +1,130 @@
+-- What the writers' definitions say, as a writer's code meets it.
+-- Assumes nothing.
+use mathlib.Core.Path.{_≡_, refl, ap}
+use mathlib.Core.Bool.{Bool, true, false}
+use mathlib.Core.List.{List, [], _∷_, _++_, append-assoc}
+use Prim.Native.Nat.{ℕ, zero, suc, _+_, _-_, _/_, _%_, _^_, _<_, _≤_}
+use native.Mathlib.Numerals.{add-one}
+use native.Mathlib.Omega.{arith}
+use lib.ListN.{length, getD, take, drop, length-append, drop-of-length-le}
+use lib.Seq.{drop-cons}
+use lib.IntN.{ℤ, pos, negsuc, natAbs}
+use lib.Signed.{ltZ}
+use borrow.Author.Tests.{lt-ltb, le-ltb, ltb-true, ne-eqb}
+use Rattle.whole.specs.Words.{isZeroZ}
+use Rattle.rules.specs.Eliminate.{Step}
+use Rattle.rules.specs.Outcome.{Outcome}
+use Rattle.write_text.specs.Puts.{Begins}
+use Rattle.write_text.specs.Held.{opening, closing}
+use Rattle.rules.specs.Bytes.{bytes}
+use Rattle.rules.specs.WriteText.{decimal, shown, shownZ, listed, listedZ, edgeIf, edgeLine, edgeLines, choicesOf, stepLine, stepLines, yesNo, written, writtenRefusal}
+
+pub decimal-none : (k v : ℕ) → k ≡ 0 → decimal k v ≡ []
+unfolding decimal
+decimal-none k v h = rw h
+
+pub decimal-last : (k v : ℕ) → (k ≡ 0 → ⊥) → v < 10 → decimal k v ≡ (48 + v % 10) ∷ []
+unfolding decimal
+decimal-last zero v n h = absurd (n refl)
+decimal-last (suc k) v n h = rw (lt-ltb v 10 h)
+
+pub decimal-more : (k v : ℕ) → (k ≡ 0 → ⊥) → 10 ≤ v → decimal k v ≡ decimal (k - 1) (v / 10) ++ ((48 + v % 10) ∷ [])
+unfolding decimal
+decimal-more zero v n h = absurd (n refl)
+decimal-more (suc k) v n h = let e : suc k - 1 ≡ k = omega arith in rw (le-ltb v 10 h, e)
+
+pub decimal-more-length : (k v : ℕ) → (k ≡ 0 → ⊥) → 10 ≤ v → length (decimal k v) ≡ length (decimal (k - 1) (v / 10)) + 1
+decimal-more-length k v n h = rw (decimal-more k v n h, length-append)
+
+-- a signed number
+pub signed-less : (w : ℤ) → ltZ w (pos 0) ≡ true → shownZ w ≡ 45 ∷ shown (natAbs w)
+signed-less (pos v) h = let z : _≡_ {A = ℕ} 0 1 = absurd (omega (arith, ltb-true v 0 h)) in absurd (omega arith)
+signed-less (negsuc v) h = refl
+
+pub signed-plain : (w : ℤ) → ltZ w (pos 0) ≡ false → shownZ w ≡ shown (natAbs w)
+signed-plain (pos v) h = refl
+signed-plain (negsuc v) h = let z : _≡_ {A = ℕ} 0 1 = cc in absurd (omega arith)
+
+-- the length of an edge's line
+pub edge-length : (i j : ℕ) (w : ℤ) → length (edgeIf true i j w) ≡ 5 + length (shown i) + 1 + length (shown j) + 1 + length (shownZ w) + 1
+edge-length i j w = simp length-append (omega arith)
+
+pub zero-no : (w : ℤ) → (w ≡ pos 0 → ⊥) → isZeroZ w ≡ false
+zero-no (pos v) h = ne-eqb v 0 (λ e. h (ap pos e))
+zero-no (negsuc v) h = refl
+
+-- what is left of a list at the place j
+pub listed-left : (xs : List ℕ) (j : ℕ) → j < length xs → Begins (listed (drop j xs)) (32 ∷ shown (getD xs j 0)) (listed (drop (j + 1) xs))
+unfolding listed
+listed-left xs j h = record { parts = rw (drop-cons xs j 0 h, add-one) }
+
+pub listed-none : (xs : List ℕ) (j : ℕ) → length xs ≤ j → listed (drop j xs) ≡ []
+unfolding listed
+listed-none xs j h = rw (drop-of-length-le xs h)
+
+pub edges-left : (es : List ℤ) (k : ℕ) → k < length es → Begins (edgeLines k (drop k es)) (edgeLine k (getD es k (pos 0))) (edgeLines (k + 1) (drop (k + 1) es))
+unfolding edgeLines
+edges-left es k h = record { parts = rw (drop-cons es k (pos 0) h, add-one) }
+
+pub edges-none : (es : List ℤ) (k : ℕ) → length es ≤ k → edgeLines k (drop k es) ≡ []
+unfolding edgeLines
+edges-none es k h = rw (drop-of-length-le es h)
+
+pub listedZ-left : (ws : List ℤ) (j : ℕ) → j < length ws → Begins (listedZ (drop j ws)) (32 ∷ shownZ (getD ws j (pos 0))) (listedZ (drop (j + 1) ws))
+unfolding listedZ
+listedZ-left ws j h = record { parts = rw (drop-cons ws j (pos 0) h, add-one) }
+
+pub listedZ-none : (ws : List ℤ) (j : ℕ) → length ws ≤ j → listedZ (drop j ws) ≡ []
+unfolding listedZ
+listedZ-none ws j h = rw (drop-of-length-le ws h)
+
+pub choices-left : (k m : ℕ) → 0 < k → Begins (listed (choicesOf k m)) (32 ∷ shown (m % 2)) (listed (choicesOf (k - 1) (m / 2)))
+unfolding listed choicesOf
+choices-left zero m h = absurd (omega arith)
+choices-left (suc k) m h = let e : suc k - 1 ≡ k = omega arith in record { parts = rw e }
+
+pub choices-none : (k m : ℕ) → k ≤ 0 → listed (choicesOf k m) ≡ []
+unfolding listed choicesOf
+choices-none zero m h = refl
+choices-none (suc k) m h = absurd (omega arith)
+
+pub steps-left : (ss : List Step) (d : Step) (j : ℕ) → j < length ss → Begins (stepLines (drop j ss)) (stepLine (getD ss j d)) (stepLines (drop (j + 1) ss))
+unfolding stepLines
+steps-left ss d j h = record { parts = rw (drop-cons ss j d h, add-one) }
+
+pub steps-none : (ss : List Step) (j : ℕ) → length ss ≤ j → stepLines (drop j ss) ≡ []
+unfolding stepLines
+steps-none ss j h = rw (drop-of-length-le ss h)
+
+pub step-length : (s : Step) → length (stepLine s) ≡ 5 + length (shown (s .decision)) + 2 + length (listed (s .near)) + 2 + length (listed (choicesOf (2 ^ length (s .near)) (s .choices))) + 1
+unfolding stepLine
+step-length s = simp length-append (omega arith)
+
+pub opening-length : (c : ℤ) (r : List ℕ) (l : List ℤ) → length (opening c r l) ≡ 9 + length (shownZ c) + 10 + length (listed r) + 7 + length (listedZ l) + 1
+unfolding opening
+opening-length c r l = simp length-append (omega arith)
+
+pub closing-length : (u : ℕ) (b : Bool) → length (closing u b) ≡ 6 + length (shown u) + 10 + length (yesNo b)
+unfolding closing
+closing-length u b = simp length-append (omega arith)
+
+-- a result in four parts
+regroup : (a n e s u v w y : List ℕ) → a ++ (n ++ e) ++ s ++ u ++ v ++ w ++ y ≡ (a ++ n) ++ e ++ s ++ (u ++ v ++ w ++ y)
+regroup a n e s u v w y = simp append-assoc
+
+pub written-parts : (o : Outcome) → written o ≡ opening (o .constant) (o .remaining) (take (length (o .remaining)) (o .linear)) ++ edgeLines 0 (o .edges) ++ stepLines (o .steps) ++ closing (o .units) (o .complete)
+unfolding written opening closing
+written-parts o =
+    regroup
+    (bytes "constant " ++ shownZ (o .constant) ++ bytes "\nremaining" ++ listed (o .remaining) ++ bytes "\nlinear" ++ listedZ (take (length (o .remaining)) (o .linear)))
+    (10 ∷ [])
+    (edgeLines 0 (o .edges))
+    (stepLines (o .steps))
+    (bytes "units ")
+    (shown (o .units))
+    (bytes " complete ")
+    (yesNo (o .complete))
+
+pub refusal-length : (k : ℕ) → length (writtenRefusal k) ≡ 8 + length (shown k) + 1
+unfolding writtenRefusal
+refusal-length k = simp length-append (omega arith)
