@@ -1,13 +1,12 @@
 -- What is known of an objective that is not refused.
 -- Assumes nothing.
-use mathlib.Core.Path.{_≡_, refl, sym, ap, _∙_}
-use mathlib.Core.Bool.{Bool, true, false, cond, not, _&&_, _||_}
-use mathlib.Core.List.{List, [], _∷_, _++_}
+use mathlib.Core.Path.{_≡_, refl}
+use mathlib.Core.Bool.{Bool, true, false, cond, not, _||_}
+use mathlib.Core.List.{List, [], _∷_}
 use Prim.Native.Nat.{ℕ, zero, suc, _+_, _<_, _≤_}
 use native.Mathlib.Omega.{arith}
 use lib.Dec.{ltb, leb, eqb}
 use lib.ListN.{length, getD}
-use lib.IntN.{ℤ, pos}
 use borrow.Author.Tests.{ltb-false, leb-false, eqb-true}
 use Rattle.whole.specs.Words.{some, oneOf}
 use Rattle.rules.specs.Objective.{Objective, objective, weightOf}

@@ -1,13 +1,13 @@
 -- The mass of a graph, the absolute values of all its numbers added up: what each update does to it. It bounds every number of the graph.
 -- Assumes nothing.
-use mathlib.Core.Path.{_≡_, refl, ap, sym, _∙_}
+use mathlib.Core.Path.{_≡_, refl, ap, _∙_}
 use mathlib.Core.List.{List, [], _∷_, _++_}
 use Prim.Native.Nat.{ℕ, zero, suc, _+_, _*_, _<_, _≤_}
 use native.Mathlib.Omega.{arith}
-use lib.ListN.{length, getD, set, drop, replicate}
+use lib.ListN.{getD, set, replicate}
 use lib.Seq.{getD-set-other}
 use lib.IntN.{ℤ, pos, natAbs, _+ℤ_}
-use Rattle.whole.specs.Parts.{∣_∣, natAbs-parts}
+use Rattle.whole.specs.Parts.{natAbs-parts}
 use Rattle.whole.specs.Ints.{ints}
 use Rattle.whole.specs.Words.{tab}
 use Rattle.rules.specs.Graph.{Graph, clear}

@@ -1,10 +1,9 @@
 // Eliminating a decision that has three neighbours, where that leaves no cubic term.
 ghost use mathlib.Core.Path.{_≡_};
-ghost use mathlib.Core.Bool.{Bool, cond};
-ghost use mathlib.Core.List.{List};
-ghost use Prim.Native.Nat.{ℕ, _+_, _<_, _≤_, _^_};
+ghost use mathlib.Core.Bool.{cond};
+ghost use Prim.Native.Nat.{ℕ, _<_, _≤_, _^_};
 ghost use lib.ListN.{getD};
-ghost use lib.IntN.{ℤ, pos, _+ℤ_};
+ghost use lib.IntN.{pos};
 ghost use Rattle.whole.specs.Parts.{∣_∣};
 ghost use Rattle.whole.specs.Words.{tab};
 ghost use Rattle.rules.specs.Eliminate.{stepOf};
@@ -136,8 +135,9 @@ pub fn eliminate_three(
         × (r .step ≡ cond (cubic (held f (now (lin .entry)) (now (edges .entry))) i) noStep (hold (stepOf (held f (now (lin .entry)) (now (edges .entry))) i))) ⌝ }
 {
     let a = lin[i];
-    let d = low_degree::deltas(a, near);
-    let t = low_degree::tees(d);
+    let table = low_degree::table_of(a, near);
+    let d = table.deltas;
+    let t = table.tees;
     let e = moebius(t);
     let cube = e[7];
     if cube != 0 {

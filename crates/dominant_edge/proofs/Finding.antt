@@ -1,8 +1,8 @@
 -- The search for the dominant neighbour, turn by turn.
 use mathlib.Core.Path.{_≡_, refl, sym, ap, _∙_, subst}
 use mathlib.Core.Bool.{Bool, true, false, cond, _&&_, _||_}
-use mathlib.Core.List.{List, [], _∷_, map}
-use Prim.Native.Nat.{ℕ, zero, suc, _+_, _*_, _^_, _<_, _≤_}
+use mathlib.Core.List.{List}
+use Prim.Native.Nat.{ℕ, _+_, _^_, _<_, _≤_}
 use native.Mathlib.Omega.{arith}
 use native.Mathlib.Numerals.{add-one}
 use lib.Dec.{eqb}
@@ -17,10 +17,9 @@ use Rattle.whole.specs.Parts.{∣_∣}
 use Rattle.whole.specs.Ints.{ints, fit-lo, rd}
 use Rattle.whole.specs.Cmp.{lt-ind, below0-abs}
 use Rattle.whole.specs.Words.{isZeroZ, below0, above0}
-use Rattle.rules.specs.Graph.{Graph, edge, lin, row, neighbours}
-use Rattle.rules.specs.DominantEdge.{Found, nothing, at, negatives, positives, lo, hi, upper, lower, dominates, weak, first, dominant}
+use Rattle.rules.specs.Graph.{Graph, edge}
+use Rattle.rules.specs.DominantEdge.{nothing, at, negatives, positives, lo, hi, dominates, weak, first, dominant}
 use Rattle.low_degree.proofs.Laws.{fit, sum-fits, read-below}
-use Rattle.dominant_edge.specs.declared.Test.{Test}
 use Rattle.dominant_edge.specs.Answer.{verdictOf, testOf}
 
 -- a test for 0, of the bits

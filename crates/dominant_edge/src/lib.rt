@@ -1,9 +1,10 @@
 // Contracting a decision with a dominant neighbour.
 ghost use mathlib.Core.Path.{_≡_};
-ghost use mathlib.Core.Bool.{Bool, _&&_, _||_};
-ghost use Prim.Native.Nat.{ℕ, _+_, _*_, _<_, _≤_, _^_};
+ghost use mathlib.Core.Bool.{_&&_, _||_};
+ghost use mathlib.Core.List.{[], _∷_};
+ghost use Prim.Native.Nat.{ℕ, _<_, _≤_, _^_};
 ghost use lib.ListN.{getD};
-ghost use lib.IntN.{ℤ, pos, _+ℤ_};
+ghost use lib.IntN.{pos};
 ghost use lib.Signed.{leZ};
 ghost use Rattle.whole.specs.Parts.{∣_∣};
 ghost use Rattle.whole.specs.Words.{isZeroZ};
@@ -14,7 +15,6 @@ ghost use Rattle.rules.specs.Size.{Within};
 ghost use Rattle.graph.specs.Held.{held};
 ghost use Rattle.graph.specs.Near.{nearOf};
 ghost use Rattle.graph.specs.Small.{Small};
-ghost use mathlib.Core.List.{[], _∷_};
 ghost use Rattle.dominant_edge.specs.Answer.{verdictOf, testOf, Bounds-are, Finds, Turns, Moves};
 
 // The least and the largest that a decision's delta can be.

@@ -1,15 +1,14 @@
 -- Turns of the loops that build and fix, and bounds.
 use mathlib.Core.Path.{_≡_, refl, sym, ap, _∙_}
 use mathlib.Core.Bool.{Bool, true, false, cond, not}
-use mathlib.Core.List.{List, [], _∷_, _++_, append-nil}
+use mathlib.Core.List.{List, [], _∷_, _++_}
 use Prim.Native.Nat.{ℕ, zero, suc, _+_, _*_, _-_, _<_, _≤_, _^_}
 use native.Mathlib.Omega.{arith}
 use native.Mathlib.Numerals.{add-one}
 use lib.ListN.{length, getD, set, drop, take, replicate, drop-of-length-le}
 use lib.Seq.{getD-set-other, drop-cons, take-suc, take-length, set-at, append-snoc, length-take-le}
-use lib.Dec.{ltb, eqb}
+use lib.Dec.{ltb}
 use borrow.Author.Tests.{eq-eqb, ne-eqb}
-use native.Mathlib.Decide.{ℕ-discrete}
 use lib.IntN.{ℤ, pos, negsuc, natAbs, _+ℤ_}
 use lib.Signed.{mag}
 use mir.Syntax.{w64}
@@ -18,7 +17,7 @@ use Rattle.whole.specs.Parts.{natAbs-parts}
 use Rattle.whole.specs.Ints.{ints}
 use Rattle.whole.specs.Words.{isZeroZ, from, those, tab}
 use Rattle.whole.specs.Lists.{tab-replicate, drop-replicate}
-use Rattle.rules.specs.Graph.{Graph, graph, edge, lin, addLinear, addEdge, addTerm, addTerms}
+use Rattle.rules.specs.Graph.{Graph, graph, edge, addLinear, addEdge, addTerm, addTerms}
 use Rattle.rules.specs.Fixing.{spread, fix, fixAll}
 use Rattle.rules.specs.Objective.{weightOf}
 use Rattle.accepted.specs.Mass.{weight-at, weight-set, weight-gain, abs-add}

@@ -1,15 +1,15 @@
 -- The graph of an objective, from what the code's parts give.
-use mathlib.Core.Path.{_≡_, refl, sym, ap, _∙_}
+use mathlib.Core.Path.{_≡_, ap, _∙_}
 use mathlib.Core.List.{List, _++_}
-use Prim.Native.Nat.{ℕ, _+_, _*_, _-_, _<_, _≤_}
+use Prim.Native.Nat.{ℕ, _+_, _*_, _-_, _≤_}
 use native.Mathlib.Omega.{arith}
 use lib.ListN.{length, drop, replicate, length-replicate}
-use lib.IntN.{ℤ, pos, natAbs}
+use lib.IntN.{ℤ, pos}
 use Rattle.whole.specs.Lists.{drop-replicate}
 use Rattle.rules.specs.Graph.{Graph, graph, addTerms, bare, graphOf, noEdges}
 use Rattle.rules.specs.Fixing.{fixAll, start}
-use Rattle.rules.specs.Objective.{Objective, objective, weightOf}
-use Rattle.accepted.specs.Mass.{mass, weight-append, weight-zeros}
+use Rattle.rules.specs.Objective.{objective, weightOf}
+use Rattle.accepted.specs.Mass.{weight-append, weight-zeros}
 use Rattle.accepted.specs.Accept.{Fit}
 use Rattle.graph.specs.Held.{held, noLinear, Below, Does}
 use Rattle.graph.specs.declared.Frame.{Frame}

@@ -11,7 +11,7 @@ use lib.Seq.{set-at, append-snoc}
 use lib.IntN.{ℤ, pos}
 use Rattle.whole.specs.Words.{isZeroZ, from, upto, those}
 use Rattle.rules.specs.Graph.{Graph, edge, row, neighbours}
-use Rattle.graph.specs.Near.{padded, nearAmong, nearOf, Nears, Degrees}
+use Rattle.graph.specs.Near.{padded, nearAmong, nearOf}
 use Rattle.graph.specs.declared.Near.{Near}
 
 -- ---- lists at the front of 64 places

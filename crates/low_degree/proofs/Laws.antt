@@ -1,8 +1,8 @@
 -- What the code's parts make: the table of masks, the choices, and the update of the graph.
-use mathlib.Core.Path.{_≡_, refl, sym, ap, ap₂, _∙_}
+use mathlib.Core.Path.{_≡_, refl, ap, ap₂, _∙_}
 use mathlib.Core.Bool.{Bool, true, false, cond}
-use mathlib.Core.List.{List, [], _∷_, _++_}
-use Prim.Native.Nat.{ℕ, zero, suc, _+_, _*_, _-_, _^_, _<_, _≤_}
+use mathlib.Core.List.{List, [], _∷_}
+use Prim.Native.Nat.{ℕ, suc, _+_, _*_, _-_, _^_, _<_, _≤_}
 use native.Mathlib.Omega.{arith}
 use native.Mathlib.Numerals.{add-one}
 use native.Mathlib.Nat.{pow-le-pow-right}
@@ -11,8 +11,8 @@ use lib.IntN.{ℤ, pos, _+ℤ_, _-ℤ_}
 use mir.Syntax.{w64}
 use mir.Val.{SFits, toZ, ofZ}
 use Rattle.whole.specs.Parts.{∣_∣}
-use Rattle.whole.specs.Ints.{ints, zarith, rd}
-use Rattle.whole.specs.Words.{tab, chosen, bitsFrom, oneIf, below0}
+use Rattle.whole.specs.Ints.{ints, rd}
+use Rattle.whole.specs.Words.{tab, chosen, bitsFrom, below0}
 use Rattle.whole.specs.Cmp.{lt-ind}
 use Rattle.whole.specs.Lists.{tab-at}
 use Rattle.rules.specs.Graph.{Graph, neighbours, addConstant, addLinear, addEdge, dropTo}

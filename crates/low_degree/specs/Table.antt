@@ -1,12 +1,17 @@
 -- The table of a decision's deltas, one entry a mask of at most three neighbours, and what is read from it.
 -- Assumes nothing.
+use mathlib.Core.Path.{_≡_}
 use mathlib.Core.List.{List, [], _∷_}
 use Prim.Native.Nat.{ℕ, _^_}
 use lib.ListN.{getD}
 use lib.IntN.{ℤ, pos, _+ℤ_}
 use lib.Signed.{ltZ}
 use Rattle.whole.specs.Words.{tab, chosen, bitsFrom, below0}
+use Rattle.rules.specs.Graph.{Graph, lin}
+use Rattle.rules.specs.Eliminate.{delta, tee}
+use Rattle.graph.specs.Near.{nearOf}
 use Rattle.graph.specs.declared.Near.{Near}
+use Rattle.low_degree.specs.declared.Table.{Table}
 use Rattle.rules.specs.declared.Step.{Step}
 
 -- the first three weights; a missing one is 0, so that one table serves every degree
@@ -32,3 +37,7 @@ stepFrom i near ds = record {
   third = getD (near .list) 2 0;
   choices = choicesOf ds (2 ^ near .count);
 }
+
+-- the rules' own table, in whatever graph the decision stands
+abbrev pub Tables : Table → ℤ → Near → Type 0
+Tables r a near = (g : Graph) (i : ℕ) → a ≡ lin g i → near ≡ nearOf g i → (r .deltas ≡ tab (delta g i) 8) × (r .tees ≡ tab (tee g i) 8)

@@ -1,6 +1,6 @@
 -- The table of masks is the rules' own, for every degree up to three.
 -- Assumes nothing.
-use mathlib.Core.Path.{_≡_, refl, sym, ap, ap₂, _∙_}
+use mathlib.Core.Path.{_≡_, refl, ap, ap₂, _∙_, sym, subst}
 use mathlib.Core.Bool.{Bool, true, false, cond}
 use mathlib.Core.List.{List, [], _∷_, _++_}
 use Prim.Native.Nat.{ℕ, zero, suc, _+_, _*_, _/_, _^_, _<_, _≤_}
@@ -20,7 +20,7 @@ use Rattle.rules.specs.Record.{hold}
 use Rattle.rules.specs.Size.{Within}
 use Rattle.graph.specs.Near.{nearOf}
 use Rattle.graph.specs.NearLaws.{length-map, near-count, near-list, near-weights}
-use Rattle.graph.specs.Small.{map-at-most}
+use Rattle.graph.specs.Small.{Small, small-near, map-at-most}
 use Rattle.graph.specs.declared.Near.{Near}
 use Rattle.low_degree.specs.Table.{three, deltasOf, teesOf, choicesOf, stepFrom}
 
@@ -95,3 +95,7 @@ module _ (g : Graph) (i : ℕ) (near : Near) (is : near ≡ nearOf g i) (few : n
       let a = w .linear i in
       let d : ∣ delta g i m ∣ ≤ 2 ^ 43 = simp ints (omega arith) in
       omega (arith, below0-abs (delta g i m))
+
+  -- what making the table asks
+  pub table-asks : Within g → (∣ lin g i ∣ ≤ 1099511627776) × Small 2199023255552 (near .weights) × (near .count ≤ 3)
+  table-asks w = (w .linear i, subst (λ (x : Near). Small 2199023255552 (x .weights)) (sym is) (small-near g i (record { each = w .edges })), few)

@@ -1,25 +1,30 @@
 // Eliminating a decision that has at most two neighbours.
 ghost use mathlib.Core.Path.{_≡_};
-ghost use mathlib.Core.List.{List, [], _∷_};
-ghost use Prim.Native.Nat.{ℕ, _+_, _<_, _≤_, _^_};
+ghost use mathlib.Core.List.{[], _∷_};
+ghost use Prim.Native.Nat.{_<_, _≤_, _^_};
 ghost use lib.ListN.{getD, take};
-ghost use lib.IntN.{ℤ, pos, _+ℤ_};
+ghost use lib.IntN.{pos};
 ghost use lib.Signed.{ltZ};
 ghost use Rattle.whole.specs.Parts.{∣_∣};
 ghost use Rattle.whole.specs.Words.{below0};
-ghost use Rattle.rules.specs.Graph.{degree};
 ghost use Rattle.rules.specs.Eliminate.{absorb as absorbed, eliminate as eliminated, stepOf};
 ghost use Rattle.rules.specs.Record.{hold};
 ghost use Rattle.rules.specs.Size.{Within};
 ghost use Rattle.graph.specs.Held.{held};
 ghost use Rattle.graph.specs.Near.{nearOf};
 ghost use Rattle.graph.specs.Small.{Small};
-ghost use Rattle.low_degree.specs.Table.{deltasOf, teesOf, choicesOf, stepFrom};
+ghost use Rattle.low_degree.specs.Table.{deltasOf, teesOf, choicesOf, stepFrom, Tables};
 
 // What a reduction leaves: the frame, and the step that grows its decision back.
 pub struct Reduced {
     pub frame: graph::Frame,
     pub step: rules::Step,
+}
+
+// The deltas of a decision's masks, and the smaller of each and 0.
+pub struct Table {
+    pub deltas: [i64; 8],
+    pub tees: [i64; 8],
 }
 
 // ---- the table of masks
@@ -67,6 +72,16 @@ pub fn tees(deltas: [i64; 8]) -> [i64; 8]
         m = m + 1;
     }
     t
+}
+
+// Of a decision of weight a, for every degree up to three.
+pub fn table_of(a: i64, near: graph::Near) -> Table
+    requires { ⌜ (∣ a ∣ ≤ 1099511627776) × Small 2199023255552 (near .weights) × (near .count ≤ 3) ⌝ }
+    ensures { λ r. ⌜ Tables r a near ⌝ }
+{
+    let d = deltas(a, near);
+    let t = tees(d);
+    Table { deltas: d, tees: t }
 }
 
 // Bit m is the choice for mask m, for the first `masks` of them.
@@ -163,9 +178,10 @@ pub fn eliminate(
         × (r .step ≡ hold (stepOf (held f (now (lin .entry)) (now (edges .entry))) i)) ⌝ }
 {
     let a = lin[i];
-    let d = deltas(a, near);
+    let table = table_of(a, near);
+    let d = table.deltas;
+    let t = table.tees;
     let step = step_of(i, near, d);
-    let t = tees(d);
     let dropped = graph::drop_to(&mut *lin, &mut *edges, f, 3, i);
     let count = near.count;
     let list = near.list;

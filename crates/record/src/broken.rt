@@ -12,7 +12,7 @@ use rules::Record;
 use rules::Step;
 
 // Is j the decision of one of the first k steps?
-pub fn is_decided(r: Record, k: usize, j: u8) -> bool
+fn is_decided(r: Record, k: usize, j: u8) -> bool
     requires { ⌜ k ≤ 64 ⌝ }
     ensures { λ b. ⌜ b ≡ mem j (decided r k) ⌝ }
 {
@@ -28,7 +28,7 @@ pub fn is_decided(r: Record, k: usize, j: u8) -> bool
 }
 
 // A neighbour of step k: below n, not fixed, and the decision of neither this nor an earlier step.
-pub fn neighbour_fine(r: Record, k: usize, j: u8) -> bool
+fn neighbour_fine(r: Record, k: usize, j: u8) -> bool
     requires { ⌜ (r .n ≤ 64) × (k < 64) ⌝ }
     ensures { λ b. ⌜ b ≡ nearFine r k j ⌝ }
 {
@@ -46,7 +46,7 @@ pub fn neighbour_fine(r: Record, k: usize, j: u8) -> bool
 }
 
 // Each neighbour of step k.
-pub fn neighbours_fine(r: Record, k: usize, s: Step) -> bool
+fn neighbours_fine(r: Record, k: usize, s: Step) -> bool
     requires { ⌜ (r .n ≤ 64) × (k < 64) × (s .degree ≤ 3) ⌝ }
     ensures { λ b. ⌜ b ≡ all (nearFine r k) (nearOf s) ⌝ }
 {
@@ -62,7 +62,7 @@ pub fn neighbours_fine(r: Record, k: usize, s: Step) -> bool
     true
 }
 
-pub fn is_ascending(s: Step) -> bool
+fn is_ascending(s: Step) -> bool
     requires { ⌜ s .degree ≤ 3 ⌝ }
     ensures { λ b. ⌜ b ≡ ascending (nearOf s) ⌝ }
 {
@@ -79,7 +79,7 @@ pub fn is_ascending(s: Step) -> bool
 }
 
 // Each place past the neighbours.
-pub fn rest_zero(s: Step) -> bool
+fn rest_zero(s: Step) -> bool
     requires { ⌜ s .degree ≤ 3 ⌝ }
     ensures { λ b. ⌜ b ≡ all (λ x. eqb x 0) (drop (s .degree) (s .first ∷ s .second ∷ s .third ∷ [])) ⌝ }
 {
@@ -95,7 +95,7 @@ pub fn rest_zero(s: Step) -> bool
 }
 
 // No choice for a mask that d neighbours do not have.
-pub fn choices_fine(d: u8, choices: u8) -> bool
+fn choices_fine(d: u8, choices: u8) -> bool
     ensures { λ b. ⌜ b ≡ ltb choices (choiceLimit d) ⌝ }
 {
     match d {
@@ -106,7 +106,7 @@ pub fn choices_fine(d: u8, choices: u8) -> bool
     }
 }
 
-pub fn step_fine(r: Record, k: usize) -> bool
+fn step_fine(r: Record, k: usize) -> bool
     requires { ⌜ (r .n ≤ 64) × (k < 64) ⌝ }
     ensures { λ b. ⌜ b ≡ stepFine r k ⌝ }
 {
@@ -136,7 +136,7 @@ pub fn step_fine(r: Record, k: usize) -> bool
     choices_fine(s.degree, s.choices)
 }
 
-pub fn steps_fine(r: Record) -> bool
+fn steps_fine(r: Record) -> bool
     requires { ⌜ (r .n ≤ 64) × (r .count ≤ 64) ⌝ }
     ensures { λ b. ⌜ b ≡ all (stepFine r) (upto (r .count)) ⌝ }
 {
@@ -152,7 +152,7 @@ pub fn steps_fine(r: Record) -> bool
 }
 
 // No step past the count.
-pub fn rest_unused(r: Record) -> bool
+fn rest_unused(r: Record) -> bool
     requires { ⌜ r .count ≤ 64 ⌝ }
     ensures { λ b. ⌜ b ≡ all (λ k. isNone (stepAt r k)) (from (r .count) (64 - r .count)) ⌝ }
 {
@@ -166,7 +166,7 @@ pub fn rest_unused(r: Record) -> bool
     true
 }
 
-pub fn is_none(s: Step) -> bool
+fn is_none(s: Step) -> bool
     ensures { λ b. ⌜ b ≡ isNone s ⌝ }
 {
     if s.decision != 0 {
@@ -187,7 +187,7 @@ pub fn is_none(s: Step) -> bool
     s.choices == 0
 }
 
-pub fn states_fine(r: Record) -> bool
+fn states_fine(r: Record) -> bool
     requires { ⌜ r .n ≤ 64 ⌝ }
     ensures { λ b. ⌜ b ≡ all (λ i. leb (stateAt r i) 3) (upto (r .n)) ⌝ }
 {
@@ -203,7 +203,7 @@ pub fn states_fine(r: Record) -> bool
 }
 
 // No state past n.
-pub fn states_end(r: Record) -> bool
+fn states_end(r: Record) -> bool
     requires { ⌜ r .n ≤ 64 ⌝ }
     ensures { λ b. ⌜ b ≡ all (λ i. eqb (stateAt r i) 0) (from (r .n) (64 - r .n)) ⌝ }
 {
@@ -218,7 +218,7 @@ pub fn states_end(r: Record) -> bool
 }
 
 // A state-3 decision is some step's.
-pub fn is_stepped(r: Record, i: usize) -> bool
+fn is_stepped(r: Record, i: usize) -> bool
     requires { ⌜ (i < 64) × (r .count ≤ 64) ⌝ }
     ensures { λ b. ⌜ b ≡ stepped r i ⌝ }
 {
@@ -228,7 +228,7 @@ pub fn is_stepped(r: Record, i: usize) -> bool
     is_decided(r, r.count as usize, i as u8)
 }
 
-pub fn all_stepped(r: Record) -> bool
+fn all_stepped(r: Record) -> bool
     requires { ⌜ (r .n ≤ 64) × (r .count ≤ 64) ⌝ }
     ensures { λ b. ⌜ b ≡ all (stepped r) (upto (r .n)) ⌝ }
 {
@@ -243,7 +243,7 @@ pub fn all_stepped(r: Record) -> bool
     true
 }
 
-pub fn constant_fine(z: i64) -> bool
+fn constant_fine(z: i64) -> bool
     ensures { λ b. ⌜ b ≡ leb (natAbs z) 1099511627776 ⌝ }
 {
     if z < -1099511627776 {

@@ -15,7 +15,7 @@ use rules::Record;
 use rules::Step;
 
 // "0: edition, 3."
-pub fn is_edition(block: &[u8]) -> bool
+fn is_edition(block: &[u8]) -> bool
     requires { ⌜ length (now block) ≡ 512 ⌝ }
     ensures { λ r. ⌜ r ≡ eqb (getD (now (block .entry)) 0 0) edition ⌝ }
 {
@@ -23,7 +23,7 @@ pub fn is_edition(block: &[u8]) -> bool
 }
 
 // "decision, degree d, three neighbours, choices": the layout of a step, read.
-pub fn step_in(block: &[u8], at: usize) -> Step
+fn step_in(block: &[u8], at: usize) -> Step
     requires { ⌜ at + 6 ≤ length (now block) ⌝ }
     ensures { λ r. ⌜ r ≡ stepIn (now (block .entry)) at ⌝ }
 {
@@ -37,7 +37,7 @@ pub fn step_in(block: &[u8], at: usize) -> Step
     }
 }
 
-pub fn no_record() -> Record
+fn no_record() -> Record
     ensures { λ r. ⌜ r ≡ noRecord ⌝ }
 {
     let none = Step {
@@ -57,7 +57,7 @@ pub fn no_record() -> Record
     }
 }
 
-pub fn steps_in(block: &[u8]) -> [Step; 64]
+fn steps_in(block: &[u8]) -> [Step; 64]
     requires { ⌜ length (now block) ≡ 512 ⌝ }
     ensures { λ r. ⌜ r ≡ map (λ k. stepIn (now (block .entry)) (76 + 6 * k)) (upto 64) ⌝ }
 {
@@ -78,7 +78,7 @@ pub fn steps_in(block: &[u8]) -> [Step; 64]
     steps
 }
 
-pub fn states_in(block: &[u8]) -> [u8; 64]
+fn states_in(block: &[u8]) -> [u8; 64]
     requires { ⌜ length (now block) ≡ 512 ⌝ }
     ensures { λ r. ⌜ r ≡ take 64 (drop 12 (now (block .entry))) ⌝ }
 {
@@ -91,7 +91,7 @@ pub fn states_in(block: &[u8]) -> [u8; 64]
     states
 }
 
-pub fn record_in(block: &[u8]) -> Record
+fn record_in(block: &[u8]) -> Record
     requires { ⌜ length (now block) ≡ 512 ⌝ }
     ensures { λ r. ⌜ r ≡ recordIn (now (block .entry)) ⌝ }
 {
@@ -108,7 +108,7 @@ pub fn record_in(block: &[u8]) -> Record
 }
 
 // The bytes that no field holds.
-pub fn zeros_in(block: &[u8]) -> bool
+fn zeros_in(block: &[u8]) -> bool
     requires { ⌜ length (now block) ≡ 512 ⌝ }
     ensures { λ r. ⌜ r ≡ zerosIn (now (block .entry)) ⌝ }
 {
@@ -125,7 +125,7 @@ pub fn zeros_in(block: &[u8]) -> bool
     true
 }
 
-pub fn refused(answer: u8) -> Reading
+fn refused(answer: u8) -> Reading
     ensures { λ r. ⌜ (r .answer ≡ answer) × (r .«record» ≡ noRecord) ⌝ }
 {
     let none = no_record();

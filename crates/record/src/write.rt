@@ -13,7 +13,7 @@ use rules::Record;
 use rules::Step;
 
 // "decision, degree d, three neighbours, choices": the layout of a step, written.
-pub fn put_step(block: &mut [u8], at: usize, s: Step)
+fn put_step(block: &mut [u8], at: usize, s: Step)
     requires { ⌜ at + 6 ≤ length (now block) ⌝ }
     ensures { λ _. ⌜ now (block .exit) ≡ sets (now (block .entry)) at (stepBytes s) ⌝ }
 {
@@ -25,7 +25,7 @@ pub fn put_step(block: &mut [u8], at: usize, s: Step)
     block[at + 5] = s.choices;
 }
 
-pub fn put_steps(block: &mut [u8], r: Record)
+fn put_steps(block: &mut [u8], r: Record)
     requires { ⌜ length (now block) ≡ 512 ⌝ }
     ensures { λ _. ⌜ now (block .exit) ≡ sets (now (block .entry)) 76 (stepsBytes (r .steps)) ⌝ }
 {
@@ -36,7 +36,7 @@ pub fn put_steps(block: &mut [u8], r: Record)
     }
 }
 
-pub fn put_states(block: &mut [u8], r: Record)
+fn put_states(block: &mut [u8], r: Record)
     requires { ⌜ length (now block) ≡ 512 ⌝ }
     ensures { λ _. ⌜ now (block .exit) ≡ sets (now (block .entry)) 12 (r .states) ⌝ }
 {
@@ -47,7 +47,7 @@ pub fn put_states(block: &mut [u8], r: Record)
     }
 }
 
-pub fn put_zeros(block: &mut [u8])
+fn put_zeros(block: &mut [u8])
     requires { ⌜ length (now block) ≡ 512 ⌝ }
     ensures { λ _. ⌜ now (block .exit) ≡ sets (now (block .entry)) 460 (replicate 48 0) ⌝ }
 {
@@ -59,7 +59,7 @@ pub fn put_zeros(block: &mut [u8])
 }
 
 // "0: edition, 3. 1: n. 2: number of steps. 3: zero."
-pub fn put_head(block: &mut [u8], r: Record)
+fn put_head(block: &mut [u8], r: Record)
     requires { ⌜ length (now block) ≡ 512 ⌝ }
     ensures { λ _. ⌜ now (block .exit) ≡ sets (now (block .entry)) 0 (edition ∷ r .n ∷ r .count ∷ 0 ∷ []) ⌝ }
 {
@@ -70,7 +70,7 @@ pub fn put_head(block: &mut [u8], r: Record)
 }
 
 // The first 508 bytes.
-pub fn put_body(block: &mut [u8], r: Record)
+fn put_body(block: &mut [u8], r: Record)
     requires { ⌜ length (now block) ≡ 512 ⌝ }
     ensures { λ _. ⌜ now (block .exit) ≡ sets (now (block .entry)) 0 (body r) ⌝ }
 {

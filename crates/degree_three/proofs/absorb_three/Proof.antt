@@ -1,15 +1,14 @@
 use Rattle.degree_three.proofs.Absorbing.{absorb-made}
 use Rattle.low_degree.proofs.Laws.{read, sum-fits, gain-fits}
 use Rattle.graph.specs.Small.{Small, small-gain}
-use lib.IntN.{ℤ, pos, _+ℤ_}
-use lib.ListN.{getD, set}
+use lib.IntN.{ℤ, pos}
+use lib.ListN.{getD}
 use mir.Syntax.{w64}
 use mir.Val.{toZ, ofZ}
 use denote.Ref.{now}
-use mathlib.Core.List.{List}
 use mathlib.Core.Path.{_≡_, sym, subst}
 use native.Mathlib.Omega.{arith}
-use Prim.Native.Nat.{ℕ, _+_, _^_, _≤_}
+use Prim.Native.Nat.{ℕ, _+_, _^_}
 use borrow.Author.Needs.{needs}
 use Rattle.degree_three.proofs.absorb_three.Statement.{statement}
 use Rattle.degree_three.proofs.absorb_three.Tie as tie

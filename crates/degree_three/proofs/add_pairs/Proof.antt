@@ -1,14 +1,12 @@
 use Rattle.degree_three.proofs.Taking.{pair-few, pairs-turn, pairs-end}
 use Rattle.graph.specs.HeldLaws.{edge-gain}
-use Rattle.degree_three.specs.Pairs.{rulePair, pairAt}
 use Rattle.degree_three.specs.declared.Pair.{Pair}
 use Rattle.rules.specs.DegreeThree.{pairs, addPairs}
-use Rattle.rules.specs.Graph.{Graph, graph, addEdge}
+use Rattle.rules.specs.Graph.{graph, addEdge}
 use Rattle.graph.specs.Small.{Small, small-more, small-gains}
 use Rattle.low_degree.proofs.Laws.{read, gain-fits}
-use lib.IntN.{ℤ, pos, _+ℤ_}
-use lib.ListN.{getD, set, drop}
-use denote.Ref.{now}
+use lib.IntN.{ℤ, pos}
+use lib.ListN.{getD, drop}
 use mathlib.Core.List.{List}
 use mathlib.Core.Path.{_≡_, refl, sym, ap, _∙_, subst}
 use native.Mathlib.Omega.{arith}

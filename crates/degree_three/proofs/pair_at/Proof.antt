@@ -1,6 +1,6 @@
 use Rattle.degree_three.specs.Pairs.{pairAt}
 use Rattle.degree_three.specs.declared.Pair.{Pair}
-use mathlib.Core.List.{List, [], _∷_}
+use mathlib.Core.List.{[], _∷_}
 use mathlib.Core.Path.{_≡_, refl}
 use native.Mathlib.Omega.{arith}
 use Prim.Native.Nat.{ℕ, zero, suc, _<_}

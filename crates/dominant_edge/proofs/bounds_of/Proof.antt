@@ -1,15 +1,14 @@
-use Rattle.dominant_edge.proofs.Finding.{above-is, negatives-turn, positives-turn, negatives-end, positives-end, sum-next, sum-end, Turn, made}
+use Rattle.whole.specs.Parts.{∣_∣}
+use Rattle.dominant_edge.proofs.Finding.{negatives-turn, positives-turn, negatives-end, positives-end, sum-next, sum-end, Turn, made}
 use Rattle.rules.specs.DominantEdge.{negatives, positives}
 use Rattle.rules.specs.Graph.{lin, edge, row, neighbours}
 use Rattle.graph.specs.NearLaws.{length-map, near-count, near-weights}
-use Rattle.graph.specs.Small.{Small}
-use Rattle.whole.specs.Parts.{∣_∣}
-use Rattle.whole.specs.Ints.{ints, zarith, rd}
+use Rattle.whole.specs.Ints.{rd}
 use Rattle.whole.specs.Words.{below0, above0}
-use lib.IntN.{ℤ, pos, _+ℤ_, _-ℤ_}
+use lib.IntN.{ℤ, pos, _+ℤ_}
 use lib.ListN.{length, getD, drop}
 use mir.Syntax.{w64}
-use mir.Val.{SFits, toZ, ofZ}
+use mir.Val.{toZ, ofZ}
 use mathlib.Core.List.{List}
 use mathlib.Core.Path.{_≡_, refl, sym, ap, _∙_}
 use native.Mathlib.Omega.{arith}

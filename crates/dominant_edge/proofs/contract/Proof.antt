@@ -1,3 +1,4 @@
+use Rattle.whole.specs.Parts.{∣_∣}
 use Rattle.dominant_edge.proofs.Giving.{minus, minus-fits, minus-at-most, by-turning, by-moving, step-by}
 use Rattle.low_degree.proofs.Laws.{read, sum-fits, gain-fits}
 use Rattle.rules.specs.Graph.{Graph, lin, edge}
@@ -6,12 +7,11 @@ use Rattle.graph.specs.Held.{held}
 use Rattle.graph.specs.NearLaws.{near-count, near-below, few-neighbours}
 use Rattle.graph.specs.Small.{Small, small-more, small-gain, small-near, dropped-constant, dropped-linear, dropped-edges}
 use Rattle.graph.specs.declared.Near.{Near}
-use Rattle.whole.specs.Parts.{∣_∣}
-use Rattle.whole.specs.Ints.{ints, rd}
-use lib.IntN.{ℤ, pos, negℤ, _+ℤ_}
+use Rattle.whole.specs.Ints.{ints}
+use lib.IntN.{ℤ, negℤ, _+ℤ_}
 use lib.ListN.{getD}
 use mir.Syntax.{w64}
-use mir.Val.{SFits, toZ, ofZ}
+use mir.Val.{toZ, ofZ}
 use denote.Ref.{now}
 use mathlib.Core.Bool.{true, false}
 use mathlib.Core.Path.{_≡_, sym, subst}

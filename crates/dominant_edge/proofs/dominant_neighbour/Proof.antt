@@ -1,27 +1,21 @@
+use Rattle.whole.specs.Parts.{∣_∣}
 use Rattle.dominant_edge.proofs.Finding.{first-passes, first-fails, first-end, test-is}
 use Rattle.dominant_edge.proofs.Giving.{weight-is}
 use Rattle.dominant_edge.specs.Answer.{Seen, testOf, answerOf, dominantOf}
 use Rattle.dominant_edge.specs.declared.Test.{Test}
-use Rattle.dominant_edge.specs.declared.Dominant.{Dominant}
-use Rattle.dominant_edge.specs.declared.Dominant.the-variants.{Nothing, Neighbour}
-use Rattle.rules.specs.DominantEdge.{Found, nothing, at, lo, hi, weak, dominates, first, dominant}
-use Rattle.rules.specs.Graph.{Graph, edge, neighbours}
-use Rattle.graph.specs.Near.{nearOf}
+use Rattle.dominant_edge.specs.declared.Dominant.the-variants.{Neighbour}
+use Rattle.rules.specs.DominantEdge.{at, lo, hi, weak, dominates, first, dominant}
+use Rattle.rules.specs.Graph.{Graph, neighbours}
 use Rattle.graph.specs.NearLaws.{near-count, near-list}
-use Rattle.graph.specs.Small.{Small}
-use Rattle.graph.specs.declared.Near.{Near}
 use Rattle.low_degree.proofs.Laws.{read}
-use Rattle.whole.specs.Parts.{∣_∣}
-use Rattle.whole.specs.Ints.{ints, rd}
+use Rattle.whole.specs.Ints.{rd}
 use lib.IntN.{ℤ, pos}
 use lib.ListN.{length, getD, drop}
 use mir.Syntax.{w64}
-use mir.Val.{SFits, toZ, ofZ}
-use mathlib.Core.Bool.{Bool, true, false}
-use mathlib.Core.List.{List}
+use mir.Val.{toZ, ofZ}
 use mathlib.Core.Path.{_≡_, refl, sym, ap, ap₂, _∙_}
 use native.Mathlib.Omega.{arith}
-use Prim.Native.Nat.{ℕ, _+_, _-_, _^_, _<_, _≤_}
+use Prim.Native.Nat.{ℕ, _-_, _^_, _<_, _≤_}
 use borrow.Author.Needs.{needs}
 use Rattle.dominant_edge.proofs.dominant_neighbour.Statement.{statement}
 use Rattle.dominant_edge.proofs.dominant_neighbour.Tie as tie

@@ -6,15 +6,10 @@ use Rattle.graph.specs.Near.{nearOf}
 use Rattle.graph.specs.Small.{Small, small-more, small-gains}
 use Rattle.graph.specs.declared.Near.{Near}
 use Rattle.low_degree.proofs.Laws.{read, gain-fits}
-use Rattle.whole.specs.Parts.{∣_∣}
 use borrow.Author.Tests.{eq-eqb, ne-eqb}
-use lib.Dec.{eqb}
-use lib.IntN.{ℤ, pos, _+ℤ_}
-use lib.ListN.{length, getD, set, drop}
-use mir.Syntax.{w64}
-use mir.Val.{SFits, toZ, ofZ}
-use denote.Ref.{now}
-use mathlib.Core.Bool.{Bool, true, false, cond}
+use lib.IntN.{ℤ, pos}
+use lib.ListN.{getD, drop}
+use mathlib.Core.Bool.{Bool, cond}
 use mathlib.Core.List.{List}
 use mathlib.Core.Logic.{⊎-elim}
 use mathlib.Core.Path.{_≡_, refl, sym, ap, _∙_, subst}

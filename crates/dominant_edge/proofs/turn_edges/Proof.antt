@@ -1,3 +1,4 @@
+use Rattle.whole.specs.Parts.{∣_∣}
 use Rattle.dominant_edge.proofs.Giving.{turn-next, turn-end, minus, minus-fits, minus-at-most}
 use Rattle.rules.specs.DominantEdge.{turn}
 use Rattle.rules.specs.Graph.{Graph, graph, neighbours, addLinear, addEdge}
@@ -6,15 +7,10 @@ use Rattle.graph.specs.Near.{nearOf}
 use Rattle.graph.specs.Small.{Small, small-more, small-gain, small-gains}
 use Rattle.graph.specs.declared.Near.{Near}
 use Rattle.low_degree.proofs.Laws.{read, gain-fits}
-use Rattle.whole.specs.Parts.{∣_∣}
 use borrow.Author.Tests.{eq-eqb, ne-eqb}
-use lib.Dec.{eqb}
-use lib.IntN.{ℤ, pos, negℤ, _+ℤ_, _-ℤ_}
-use lib.ListN.{length, getD, set, drop}
-use mir.Syntax.{w64}
-use mir.Val.{SFits, toZ, ofZ}
-use denote.Ref.{now}
-use mathlib.Core.Bool.{Bool, true, false, cond}
+use lib.IntN.{ℤ, pos, negℤ}
+use lib.ListN.{getD, drop}
+use mathlib.Core.Bool.{Bool, cond}
 use mathlib.Core.List.{List}
 use mathlib.Core.Logic.{⊎-elim}
 use mathlib.Core.Path.{_≡_, refl, sym, ap, _∙_, subst}

@@ -1,13 +1,8 @@
 use Rattle.graph.proofs.Laws.{gain-fits, term-lin, term-edge}
-use Rattle.accepted.specs.Mass.{weight-gain, weight-set, abs-add}
-use Rattle.rules.specs.Graph.{graph, addTerm, addLinear, addEdge}
 use Rattle.whole.specs.Ints.{rd}
-use borrow.Author.Tests.{eq-eqb, ne-eqb}
 use denote.Ref.{now}
 use native.Mathlib.Omega.{arith}
-use mathlib.Core.Path.{_≡_, refl, sym, ap, _∙_}
-use Prim.Native.Nat.{ℕ, _≤_, _-_, _+_, _*_, suc}
-use borrow.Author.Needs.{needs}
+use Prim.Native.Nat.{_+_, _*_}
 use Rattle.graph.proofs.add_term.Statement.{statement}
 use Rattle.graph.proofs.add_term.Tie as tie
 

@@ -1,7 +1,6 @@
 use Rattle.graph.proofs.Laws.{weight-turn, terms-turn, terms-end}
-use Rattle.graph.specs.Held.{Does}
 use Rattle.rules.specs.Objective.{weightOf}
-use Rattle.rules.specs.Graph.{Graph, graph, addTerm, addTerms}
+use Rattle.rules.specs.Graph.{graph, addTerm, addTerms}
 use Rattle.whole.specs.Ints.{rd}
 use borrow.Author.Needs.{needs, sfits-of}
 use mir.Val.{SFits}
@@ -12,8 +11,7 @@ use lib.ListN.{length, drop, getD}
 use native.Mathlib.Omega.{arith}
 use mathlib.Core.List.{List}
 use mathlib.Core.Path.{_≡_, refl, sym, ap, _∙_}
-use Prim.Native.Nat.{ℕ, _≤_, _-_, _+_, _*_, suc}
-use borrow.Author.Needs.{needs}
+use Prim.Native.Nat.{ℕ, _≤_, _-_, _+_, _*_}
 use Rattle.graph.proofs.add_terms.Statement.{statement}
 use Rattle.graph.proofs.add_terms.Tie as tie
 

@@ -2,8 +2,7 @@ use Rattle.graph.proofs.Start.{blank-length, light, below-first, below-
 use lib.IntN.{natAbs}
 use denote.Ref.{now}
 use native.Mathlib.Omega.{arith}
-use Prim.Native.Nat.{ℕ, _+_, _≤_}
-use mathlib.Core.Path.{_≡_, refl, sym, ap, _∙_}
+use mathlib.Core.Path.{ap, _∙_}
 use borrow.Author.Needs.{needs}
 use Rattle.graph.proofs.begin.Statement.{statement}
 use Rattle.graph.proofs.begin.Tie as tie

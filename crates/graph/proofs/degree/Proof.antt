@@ -1,13 +1,13 @@
 use Rattle.graph.proofs.Laws.{zero-is, zero-not}
 use Rattle.graph.specs.NearLaws.{there, those-more, those-same}
-use Rattle.rules.specs.Graph.{graph, neighbours}
+use Rattle.rules.specs.Graph.{neighbours}
 use Rattle.whole.specs.Words.{from, upto, those}
 use lib.IntN.{pos}
 use lib.ListN.{length, getD, length-append}
 use denote.Ref.{now}
 use mathlib.Core.List.{[], _∷_}
 use mathlib.Core.Logic.{⊎-elim}
-use mathlib.Core.Path.{_≡_, refl, sym, ap, _∙_}
+use mathlib.Core.Path.{_≡_, refl, ap, _∙_}
 use native.Mathlib.Omega.{arith}
 use Prim.Native.Nat.{ℕ, _≤_, _-_, _+_, _*_}
 use borrow.Author.Needs.{needs}

@@ -4,7 +4,7 @@ use Rattle.accepted.specs.Mass.{mass}
 use Rattle.graph.proofs.Fixing.{fix-zero, fix-room, fix-sum, fix-one}
 use Rattle.graph.proofs.Laws.{sum-fits}
 use Rattle.graph.specs.Held.{held, withConstant}
-use Rattle.rules.specs.Graph.{Graph, graph, lin}
+use Rattle.rules.specs.Graph.{lin}
 use Rattle.whole.specs.Ints.{rd}
 use borrow.Author.Needs.{needs, sfits-of}
 use mir.Val.{SFits, toZ, ofZ}
@@ -13,9 +13,8 @@ use lib.IntN.{ℤ, pos, _+ℤ_}
 use lib.ListN.{getD}
 use denote.Ref.{now}
 use native.Mathlib.Omega.{arith}
-use Prim.Native.Nat.{ℕ, _+_, _<_, _≤_}
+use Prim.Native.Nat.{_≤_}
 use mathlib.Core.Path.{_≡_, refl, sym, ap, _∙_, subst}
-use borrow.Author.Needs.{needs}
 use Rattle.graph.proofs.fix.Statement.{statement}
 use Rattle.graph.proofs.fix.Tie as tie
 

@@ -1,13 +1,12 @@
 use Rattle.graph.proofs.Laws.{fix-more, fix-same, fix-end}
 use Rattle.graph.specs.Held.{held}
 use Rattle.accepted.specs.Mass.{mass}
-use Rattle.rules.specs.Graph.{Graph, graph}
 use Rattle.rules.specs.Fixing.{fixAll}
-use lib.ListN.{getD, length, drop}
+use lib.ListN.{length, drop}
 use denote.Ref.{now}
 use borrow.Author.Tests.{lt-ltb, le-ltb}
 use native.Mathlib.Omega.{arith}
-use Prim.Native.Nat.{ℕ, _+_, _-_, _<_, _≤_}
+use Prim.Native.Nat.{_+_, _-_, _<_, _≤_}
 use mathlib.Core.Logic.{⊎-elim}
 use mathlib.Core.Path.{_≡_, refl, sym, ap, _∙_}
 use borrow.Author.Needs.{needs}

@@ -5,12 +5,11 @@ use mir.Val.{SFits}
 use mir.Syntax.{w64}
 use denote.Ref.{now}
 use lib.IntN.{pos}
-use lib.ListN.{length, take, drop, getD, length-set}
+use lib.ListN.{length, take, drop, getD}
 use native.Mathlib.Omega.{arith}
 use mathlib.Core.List.{_++_}
-use mathlib.Core.Path.{_≡_, refl, sym, ap, _∙_}
-use Prim.Native.Nat.{ℕ, _≤_, _-_, _+_, _*_, suc}
-use borrow.Author.Needs.{needs}
+use mathlib.Core.Path.{_≡_, refl, _∙_}
+use Prim.Native.Nat.{_≤_, _-_}
 use Rattle.graph.proofs.load.Statement.{statement}
 use Rattle.graph.proofs.load.Tie as tie
 

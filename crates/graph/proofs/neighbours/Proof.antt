@@ -1,21 +1,19 @@
 use Rattle.graph.proofs.Laws.{zero-is, zero-not}
 use Rattle.graph.specs.Near.{padded, nearAmong, nearOf}
 use Rattle.graph.specs.NearLaws.{there, those-more, those-same, those-few, near-more}
-use Rattle.graph.specs.declared.Near.{Near}
-use Rattle.rules.specs.Graph.{graph, neighbours}
+use Rattle.rules.specs.Graph.{neighbours}
 use Rattle.whole.specs.Ints.{rd}
 use Rattle.whole.specs.Words.{from, upto, those}
 use borrow.Author.Needs.{needs, sfits-of}
 use mir.Val.{SFits}
 use mir.Syntax.{w64}
-use lib.IntN.{ℤ, pos}
-use lib.ListN.{length, getD, length-set, length-append}
+use lib.IntN.{pos}
+use lib.ListN.{length, getD, length-set}
 use denote.Ref.{now}
-use mathlib.Core.List.{List, [], _∷_, _++_}
 use mathlib.Core.Logic.{⊎-elim}
 use mathlib.Core.Path.{_≡_, refl, sym, ap, _∙_}
 use native.Mathlib.Omega.{arith}
-use Prim.Native.Nat.{ℕ, _≤_, _<_, _-_, _+_, _*_}
+use Prim.Native.Nat.{ℕ, _≤_, _-_, _+_, _*_}
 use Rattle.graph.proofs.neighbours.Statement.{statement}
 use Rattle.graph.proofs.neighbours.Tie as tie
 

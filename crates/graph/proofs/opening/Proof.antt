@@ -1,13 +1,12 @@
 use Rattle.graph.proofs.Laws.{states-end}
-use Rattle.whole.specs.Lists.{fill-none, fill-step, tab-replicate, drop-replicate}
+use Rattle.whole.specs.Lists.{fill-step}
 use Rattle.whole.specs.Words.{tab}
-use denote.Ref.{now}
-use lib.IntN.{ℤ, pos}
-use lib.ListN.{length, drop, getD, replicate, length-set, length-replicate}
+use lib.IntN.{pos}
+use lib.ListN.{length, drop, replicate, length-set}
 use native.Mathlib.Omega.{arith}
-use mathlib.Core.List.{List, _++_}
-use mathlib.Core.Path.{_≡_, refl, sym, ap, _∙_}
-use Prim.Native.Nat.{ℕ, _≤_, _-_, _+_, _*_, suc}
+use mathlib.Core.List.{_++_}
+use mathlib.Core.Path.{_≡_, refl, _∙_}
+use Prim.Native.Nat.{_≤_, _-_}
 use borrow.Author.Needs.{needs}
 use Rattle.graph.proofs.opening.Statement.{statement}
 use Rattle.graph.proofs.opening.Tie as tie

@@ -1,17 +1,16 @@
-use Rattle.whole.specs.Lists.{fill-none, fill-step, drop-replicate}
+use Rattle.whole.specs.Lists.{fill-step, drop-replicate}
 use Rattle.whole.specs.Words.{tab}
 use Rattle.whole.specs.Ints.{rd}
 use borrow.Author.Needs.{needs, sfits-of}
 use mir.Val.{SFits}
 use mir.Syntax.{w64}
 use denote.Ref.{now}
-use lib.IntN.{ℤ, pos}
-use lib.ListN.{length, drop, getD, replicate, length-set, length-replicate}
+use lib.IntN.{pos}
+use lib.ListN.{drop, getD, replicate}
 use native.Mathlib.Omega.{arith}
-use mathlib.Core.List.{List, _++_}
-use mathlib.Core.Path.{_≡_, refl, sym, ap, _∙_}
-use Prim.Native.Nat.{ℕ, _≤_, _-_, _+_, _*_, suc}
-use borrow.Author.Needs.{needs}
+use mathlib.Core.List.{_++_}
+use mathlib.Core.Path.{_≡_, refl, _∙_}
+use Prim.Native.Nat.{_≤_, _-_, _+_, _*_}
 use Rattle.graph.proofs.row_of.Statement.{statement}
 use Rattle.graph.proofs.row_of.Tie as tie
 

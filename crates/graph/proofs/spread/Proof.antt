@@ -1,25 +1,23 @@
 use native.Mathlib.Nat.{sub-zero}
 use Rattle.graph.proofs.Laws.{weight-rest, lin-gain, gain-fits, zero-is, zero-not, spread-more, spread-same, spread-end}
-use Rattle.graph.specs.Held.{Spreads}
 use Rattle.accepted.specs.Mass.{weight-gain}
 use Rattle.rules.specs.Objective.{weightOf}
 use Rattle.rules.specs.Fixing as rule
-use Rattle.rules.specs.Graph.{Graph, graph, edge, addLinear}
+use Rattle.rules.specs.Graph.{Graph, graph, edge}
 use Rattle.whole.specs.Words.{isZeroZ, from, those}
 use Rattle.whole.specs.Ints.{rd}
 use borrow.Author.Needs.{needs, sfits-of}
 use mir.Val.{SFits}
 use mir.Syntax.{w64}
 use denote.Ref.{now}
-use lib.IntN.{ℤ, pos, natAbs, _+ℤ_}
-use lib.ListN.{length, drop, getD, set}
+use lib.IntN.{ℤ, pos, _+ℤ_}
+use lib.ListN.{drop, getD, set}
 use native.Mathlib.Omega.{arith}
-use mathlib.Core.List.{List, _++_}
+use mathlib.Core.List.{List}
 use mathlib.Core.Logic.{⊎-elim}
 use mathlib.Core.Bool.{not}
 use mathlib.Core.Path.{_≡_, refl, sym, ap, _∙_}
-use Prim.Native.Nat.{ℕ, _≤_, _<_, _-_, _+_, _*_, suc}
-use borrow.Author.Needs.{needs}
+use Prim.Native.Nat.{ℕ, _≤_, _<_, _-_, _+_}
 use Rattle.graph.proofs.spread.Statement.{statement}
 use Rattle.graph.proofs.spread.Tie as tie
 

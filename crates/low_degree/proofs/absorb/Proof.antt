@@ -1,14 +1,12 @@
 use Rattle.low_degree.proofs.Laws.{Gains, gains, gain-fits, sum-fits, absorb-none, absorb-one, absorb-two}
-use Rattle.graph.specs.Held.{held}
 use Rattle.graph.specs.Small.{Small, small-gain}
-use Rattle.whole.specs.Ints.{ints, rd}
-use lib.IntN.{ℤ, pos, _+ℤ_, _-ℤ_}
+use Rattle.whole.specs.Ints.{rd}
+use lib.IntN.{pos, _+ℤ_, _-ℤ_}
 use lib.ListN.{getD, set}
 use denote.Ref.{now}
-use mathlib.Core.Path.{_≡_, refl, sym, ap, _∙_, subst}
-use mathlib.Core.List.{List}
+use mathlib.Core.Path.{_≡_, sym, subst}
 use native.Mathlib.Omega.{arith}
-use Prim.Native.Nat.{ℕ, _+_, _*_, _^_, _≤_}
+use Prim.Native.Nat.{_+_, _*_, _^_}
 use borrow.Author.Needs.{needs}
 use Rattle.low_degree.proofs.absorb.Statement.{statement}
 use Rattle.low_degree.proofs.absorb.Tie as tie

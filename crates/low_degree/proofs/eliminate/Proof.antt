@@ -1,24 +1,20 @@
 use Rattle.low_degree.proofs.Laws.{read, eliminated}
-use Rattle.low_degree.specs.Table.{deltasOf, teesOf, stepFrom}
-use Rattle.low_degree.specs.TableLaws.{deltas-table, tees-table, step-table, tee-small}
+use Rattle.low_degree.specs.Table.{stepFrom}
+use Rattle.low_degree.specs.TableLaws.{table-asks, step-table, tee-small}
 use Rattle.graph.specs.Held.{held}
-use Rattle.graph.specs.Near.{nearOf}
 use Rattle.graph.specs.NearLaws.{near-below}
-use Rattle.graph.specs.Small.{Small, small-more, small-near, small-tab, dropped-constant, dropped-linear, dropped-edges}
+use Rattle.graph.specs.Small.{Small, small-more, small-tab, dropped-constant, dropped-linear, dropped-edges}
 use Rattle.rules.specs.Graph.{Graph}
 use Rattle.rules.specs.Eliminate.{delta, tee}
 use Rattle.whole.specs.Words.{tab}
-use Rattle.whole.specs.Parts.{∣_∣}
-use Rattle.graph.specs.declared.Near.{Near}
-use lib.IntN.{ℤ, pos}
+use lib.IntN.{pos}
 use lib.ListN.{getD}
 use mir.Syntax.{w64}
 use mir.Val.{toZ, ofZ}
 use denote.Ref.{now}
-use mathlib.Core.List.{List}
-use mathlib.Core.Path.{_≡_, refl, sym, ap, _∙_, subst}
+use mathlib.Core.Path.{_≡_, sym, ap, _∙_, subst}
 use native.Mathlib.Omega.{arith}
-use Prim.Native.Nat.{ℕ, _+_, _<_, _≤_, _^_}
+use Prim.Native.Nat.{_≤_, _^_}
 use borrow.Author.Needs.{needs}
 use Rattle.low_degree.proofs.eliminate.Statement.{statement}
 use Rattle.low_degree.proofs.eliminate.Tie as tie
@@ -33,37 +29,31 @@ weight s = read (getD (now (s .args .lin)) (s .args .i) (pos 0)) (omega (arith, 
 few : (s : tie.Start) → s .args .near .count ≤ 3
 few s = omega (arith, s .pre .4)
 
-deltas-requires : tie.Need-deltas-requires
-deltas-requires c κs =
+table-of-requires : tie.Need-table-of-requires
+table-of-requires c κs =
     let s = c .before in
-    rw (weight s) (s .pre .2 .linear (s .args .i), subst (λ (x : Near). Small 2199023255552 (x .weights)) (sym (s .pre .3)) (small-near (before s) (s .args .i) (record { each = s .pre .2 .edges })))
+    rw (weight s) (table-asks (before s) (s .args .i) (s .args .near) (s .pre .3) (few s) (s .pre .2))
 
 cast-j : tie.Need-cast-j
 cast-j c =
-    let s = c .before .before .before .before .before .before .before .before in
+    let s = c .before .before .before .before .before .before .before .before .before in
     search (needs, near-below (before s) (s .args .i) (s .args .near) (s .pre .3) (s .pre .1) 0)
 
 cast-k : tie.Need-cast-k
 cast-k c =
-    let s = c .before .before .before .before .before .before .before .before in
+    let s = c .before .before .before .before .before .before .before .before .before in
     search (needs, near-below (before s) (s .args .i) (s .args .near) (s .pre .3) (s .pre .1) 1)
 
-deltas-are : (c : tie.After-deltas) → c .deltas .result ≡ tab (delta (before (c .before .before)) (c .before .before .args .i)) 8
-deltas-are c =
-    let s = c .before .before in
-    c .deltas .ensures ∙ ap (λ (z : ℤ). deltasOf z (s .args .near .weights)) (weight s) ∙ deltas-table (before s) (s .args .i) (s .args .near) (s .pre .3) (few s)
-
-tees-are : (c : tie.After-tees) → c .tees .result ≡ tab (tee (before (c .before .before .before .before)) (c .before .before .before .before .args .i)) 8
-tees-are c =
-    let s = c .before .before .before .before in
-    c .tees .ensures ∙ ap teesOf (deltas-are (c .before .before)) ∙ tees-table (before s) (s .args .i) (s .args .near) (s .pre .3) (few s)
+-- the rules' own table
+table : (c : tie.After-table-of) → (c .table-of .result .deltas ≡ tab (delta (before (c .before .before)) (c .before .before .args .i)) 8) × (c .table-of .result .tees ≡ tab (tee (before (c .before .before)) (c .before .before .args .i)) 8)
+table c = let s = c .before .before in c .table-of .ensures (before s) (s .args .i) (weight s) (s .pre .3)
 
 absorb-requires : tie.Need-absorb-requires
 absorb-requires c κs =
-    let s = c .before .before .before .before .before .before .before .before .before .before in
+    let t = c .before .before .before .before .before .before .before .before .before in
+    let s = t .before .before in
     let a = s .args in
     let g = before s in
-    let t = c .before .before .before .before .before .before in
     let d = c .before .before .before .drop-to in
     let after = held (d .result) (d .last .0) (d .last .1 .0) in
     let low = near-below g (a .i) (a .near) (s .pre .3) (s .pre .1) in (
@@ -73,18 +63,18 @@ absorb-requires c κs =
       omega (arith, dropped-constant 3 (a .i) g after (d .ensures) (s .pre .2)),
       small-more (2 ^ 50) (dropped-linear 3 (a .i) g after (d .ensures) (s .pre .2)) (omega arith),
       small-more (2 ^ 50) (dropped-edges 3 (a .i) g after (d .ensures) (s .pre .2)) (omega arith),
-      subst (Small (2 ^ 50)) (sym (tees-are t)) (small-more (2 ^ 50) (small-tab (tee g (a .i)) 8 (tee-small g (a .i) (a .near) (s .pre .3) (few s) (s .pre .2))) (omega arith)),
+      subst (Small (2 ^ 50)) (sym (table t .1)) (small-more (2 ^ 50) (small-tab (tee g (a .i)) 8 (tee-small g (a .i) (a .near) (s .pre .3) (few s) (s .pre .2))) (omega arith)),
     )
 
 returns : tie.Need-returns
 returns c =
-    let s = c .before .before .before .before .before .before .before .before .before .before .before in
+    let t = c .before .before .before .before .before .before .before .before .before .before in
+    let s = t .before .before in
     let a = s .args in
     let g = before s in
-    let t = c .before .before .before .before .before .before .before in
     let d = c .before .before .before .before .drop-to in (
-      eliminated g (a .i) (a .near) (s .pre .3) (s .pre .4) (held (d .result) (d .last .0) (d .last .1 .0)) _ (t .tees .result) (tees-are t) (d .ensures) (c .absorb .ensures),
-      t .before .step-of .ensures ∙ ap (stepFrom (a .i) (a .near)) (deltas-are (t .before .before)) ∙ step-table g (a .i) (a .near) (s .pre .3) (few s),
+      eliminated g (a .i) (a .near) (s .pre .3) (s .pre .4) (held (d .result) (d .last .0) (d .last .1 .0)) _ (t .table-of .result .tees) (table t .1) (d .ensures) (c .absorb .ensures),
+      c .before .before .before .before .before .before .before .step-of .ensures ∙ ap (stepFrom (a .i) (a .near)) (table t .0) ∙ step-table g (a .i) (a .near) (s .pre .3) (few s),
     )
 
 pub eliminate-spec : {M : Type 1} → statement M
@@ -93,8 +83,7 @@ eliminate-spec =
     (tie.spec
     (λ c. search needs)
     (λ c. search needs)
-    deltas-requires
-    (λ c κs. search needs)
+    table-of-requires
     (λ c κs. search needs)
     (λ c κs. search needs)
     (λ c. search needs)

@@ -1,8 +1,7 @@
 use Rattle.low_degree.specs.Table.{stepFrom, choicesOf}
 use Rattle.low_degree.specs.TableLaws.{few-masks}
-use mathlib.Core.Path.{_≡_, ap, _∙_}
+use mathlib.Core.Path.{ap, _∙_}
 use native.Mathlib.Omega.{arith}
-use Prim.Native.Nat.{ℕ, _^_, _≤_}
 use borrow.Author.Needs.{needs}
 use Rattle.low_degree.proofs.step_of.Statement.{statement}
 use Rattle.low_degree.proofs.step_of.Tie as tie

@@ -2,16 +2,15 @@ use Rattle.low_degree.proofs.Laws.{read-below}
 use Rattle.low_degree.specs.Table.{teesOf}
 use Rattle.whole.specs.Lists.{fill-step, fill-end}
 use Rattle.whole.specs.Words.{tab, below0}
-use Rattle.whole.specs.Ints.{rd}
 use borrow.Author.Needs.{needs, sfits-of}
 use mir.Val.{SFits}
 use mir.Syntax.{w64}
-use lib.IntN.{ℤ, pos}
-use lib.ListN.{length, drop, getD, replicate, length-set}
-use mathlib.Core.List.{List, _++_}
-use mathlib.Core.Path.{_≡_, refl, sym, ap, _∙_}
+use lib.IntN.{pos}
+use lib.ListN.{drop, getD, replicate}
+use mathlib.Core.List.{_++_}
+use mathlib.Core.Path.{_≡_, refl, _∙_}
 use native.Mathlib.Omega.{arith}
-use Prim.Native.Nat.{ℕ, _≤_, _-_, _+_}
+use Prim.Native.Nat.{_≤_, _-_}
 use Rattle.low_degree.proofs.tees.Statement.{statement}
 use Rattle.low_degree.proofs.tees.Tie as tie
 

@@ -1,0 +1,4 @@
+pub mod Calls
+pub mod SoundRecord
+pub mod RefusalLaws
+pub mod Accepted

@@ -1,0 +1,16 @@
+// The rows of the table for an answer or a plan.
+ghost use mathlib.Core.Path.{_≡_};
+ghost use Rattle.rules.specs.Refuse.{firstRow, bytesRows};
+use rules::Record;
+
+// Rows 7 and 8, for bytes that have to be `long` long.
+pub fn bytes_refusal(record: Record, long: usize, bytes: &[u8], out: usize) -> u8
+    ensures { λ r. ⌜ r ≡ firstRow (bytesRows «record» long (now (bytes .entry)) out) ⌝ }
+{
+    let lengths = rows::either(
+        bytes.len() != long,
+        rows::either(out != record.n as usize, false),
+    );
+    let over = refusal::any_over(bytes, 1);
+    rows::row(7, lengths, rows::row(8, over, 0))
+}

@@ -1,0 +1,45 @@
+-- A block that is due, and the state after it is eliminated.
+-- Assumes nothing.
+use mathlib.Core.Path.{_≡_}
+use mathlib.Core.Bool.{cond}
+use mathlib.Core.List.{List}
+use Prim.Native.Nat.{ℕ, _+_, _<_, _≤_}
+use lib.ListN.{length, take}
+use lib.IntN.{ℤ}
+use Rattle.rules.specs.Objective.{smallBlock}
+use Rattle.rules.specs.Graph.{graph, neighbours}
+use Rattle.rules.specs.SmallBlock.{Block, none, findBlock}
+use Rattle.rules.specs.Run as run
+use Rattle.meaning.specs.Growth.{Network}
+use Rattle.graph.specs.Held.{held}
+use Rattle.small_block.specs.Held.{blockBy}
+use Rattle.small_block.specs.declared.Growth.{Growth}
+use Rattle.block_elimination.specs.Block.{Eliminable}
+use Rattle.state.specs.Holds.{Holds}
+use Rattle.state.specs.declared.State.{State}
+
+-- its edges join decisions both ways round and none with itself
+pub record Searchable (s : State) (e : List ℤ) : Type 0 where
+  pub few : s .frame .n ≤ 64
+  pub long : length e ≡ 4096
+  pub network : (l : List ℤ) → Network 64 (neighbours (held (s .frame) l e))
+
+-- what is found is what is due where the queue is empty
+pub record Searches (r : Growth) (s : State) (e : List ℤ) (sw : ℕ) : Type 0 where
+  pub long : length (r .order) ≡ 64
+  pub is : (l : List ℤ) → blockBy (r .order) (r .count) ≡ cond (smallBlock sw) (findBlock (held (s .frame) l e)) none
+
+pub record Takeable (s : State) (l e : List ℤ) (order : List ℕ) (count : ℕ) : Type 0 where
+  pub block : Eliminable (held (s .frame) l e) order count
+  pub eight : count ≤ 8
+  pub room : s .steps .count + count ≤ 64
+  pub members : s .tally .«in_blocks» ≤ 64
+  pub eliminated : s .tally .eliminated ≤ 64
+  pub three : s .tally .three ≤ 64
+  pub contracted : s .tally .contracted ≤ 64
+  pub weakly : s .tally .weakly ≤ 64
+  pub skipped : s .tally .skipped < 4294967295
+  pub blocks : s .blocks < 4294967295
+
+abbrev pub Blocks : State → List ℤ → List ℤ → List ℕ → ℕ → State → List ℤ → List ℤ → Type 0
+Blocks s l e b sw r l′ e′ = (S : run.State) → Holds S s l e → Holds (run.blocked sw b S) r l′ e′

@@ -1,0 +1,126 @@
+-- From where the code's run ended to what the call gives.
+-- Assumes nothing.
+use mathlib.Core.Path.{_≡_, refl, sym, ap, _∙_, subst}
+use mathlib.Core.List.{List}
+use Prim.Native.Nat.{ℕ, zero, suc, _+_, _<_, _≤_}
+use native.Mathlib.Omega.{arith}
+use lib.ListN.{length}
+use lib.Seq.{length-take-le}
+use lib.IntN.{ℤ}
+use Rattle.whole.specs.Words.{tab}
+use Rattle.rules.specs.Objective.{Objective}
+use Rattle.rules.specs.Graph.{Graph, actives}
+use Rattle.rules.specs.Fixing.{start}
+use Rattle.rules.specs.Run as rule
+use Rattle.rules.specs.Outcome.{linearOut, edgeOut, outcomeOf, outcome}
+use Rattle.rules.specs.Refuse.{reduceRefusal}
+use Rattle.rules.specs.Call.{unless, refused, reported, reduction, linearAfter, edgesAfter}
+use Rattle.rules.specs.declared.Reduction.{Reduction}
+use Rattle.accepted.specs.Accept.{Fit}
+use Rattle.sound_run.specs.SoundStart.{start-stands}
+use Rattle.run_laws.specs.RunEnds.{ended-few}
+use Rattle.run_laws.specs.InOrder.{Room}
+use Rattle.run_laws.specs.InOrderLaws.{ended-in-order, ended-room}
+use Rattle.graph.specs.Held.{held}
+use Rattle.outputs.specs.Out.{rest, activeOf, Places, linearAt, edgeAt}
+use Rattle.outputs.specs.declared.Remaining.{Remaining}
+use Rattle.outputs.proofs.Laws.{linear-of, edges-of}
+use Rattle.state.specs.Holds.{tallyOf}
+use Rattle.run.specs.Going.{Ends}
+use Rattle.run.specs.declared.Ended.{Ended}
+use Rattle.reduce.specs.Gives.{Gives, Done, reportFrom}
+
+-- the run that the code made is the run of the objective
+pub ended-at : (o : Objective) (g : Graph) (r : Ended) (l e : List ℤ) → g ≡ start o → Ends (rule.run (o .budget) (o .switches) (rule.begin (o .switches) g)) r l e → Ends (rule.ended o) r l e
+unfolding rule.ended
+ended-at o g r l e h k = subst (λ (x : Graph). Ends (rule.run (o .budget) (o .switches) (rule.begin (o .switches) x)) r l e) h k
+
+module _ (o : Objective) (fit : Fit o) (r : Ended) (l e : List ℤ) (k : Ends (rule.ended o) r l e) where
+  S : rule.State
+  S = rule.ended o .state
+
+  room : Room (rule.ended o .state)
+  room = ended-room o fit
+
+  -- the graph at the end has the objective's n
+  same-n : rule.ended o .state .graph .n ≡ o .n
+  same-n = ended-in-order o fit .sound .stands .size ∙ start-stands o fit .size
+
+  pub end-few : r .state .frame .n ≤ 64
+  end-few = omega (arith, ap (λ (g : Graph). g .n) (k .state .graph), room .n)
+
+  pub end-steps : r .state .steps .count ≤ 64
+  end-steps = omega (arith, k .state .steps .count, room .steps)
+
+  pub end-blocks : r .state .blocks ≤ 32
+  end-blocks = omega (arith, k .state .blocks, room .blocks)
+
+  pub end-units : r .state .takes + r .state .blocks < 4294967296
+  end-units = omega (arith, k .state .takes, k .state .blocks, ended-few o fit)
+
+  module _ (m : Remaining) (is : rest m ≡ activeOf (r .state .frame .states) (r .state .frame .n)) (ok : Places m) where
+    listed : rest m ≡ actives (held (r .state .frame) l e)
+    unfolding actives
+    listed = is
+
+    remaining : m .len ≡ length (actives (rule.ended o .state .graph))
+    remaining = sym (length-take-le (m .len) (m .list) (omega (arith, ok .few, ok .long))) ∙ ap length listed ∙ ap (λ (g : Graph). length (actives g)) (k .state .graph)
+
+    reports : reportFrom r (m .len) ≡ reported (o .n) (outcome o)
+    unfolding outcome outcomeOf
+    reports =
+        let n : r .state .frame .n ≡ o .n = ap (λ (g : Graph). g .n) (k .state .graph) ∙ same-n in
+        let c = ap (λ (g : Graph). g .constant) (k .state .graph) in
+        let ss = ap (λ (g : Graph). g .states) (k .state .graph) in
+        let t : (f : rule.Tally → ℕ) → f (tallyOf (r .state .tally)) ≡ f (rule.ended o .state .counted) = λ f. ap f (k .state .counted) in
+        cc (
+          n,
+          c,
+          ss,
+          remaining,
+          k .state .steps .list,
+          k .state .steps .count,
+          k .state .takes,
+          k .state .blocks,
+          k .complete,
+          t (λ (x : rule.Tally). x .eliminated),
+          t (λ (x : rule.Tally). x .three),
+          t (λ (x : rule.Tally). x .skipped),
+          t (λ (x : rule.Tally). x .contracted),
+          t (λ (x : rule.Tally). x .weakly),
+          t (λ (x : rule.Tally). x .inBlocks),
+        )
+
+    pub done : (z : Reduction) (l′ e′ : List ℤ) → z ≡ reportFrom r (m .len) → l′ ≡ tab (linearAt l (m .list) (m .len)) 64 → e′ ≡ tab (edgeAt e (m .list) (m .len)) 4096 → Done o z l′ e′
+    unfolding outcome outcomeOf
+    done z l′ e′ p q s = record {
+      reduction = p ∙ reports;
+      linear = q ∙ linear-of (held (r .state .frame) l e) m ok listed ∙ ap linearOut (k .state .graph);
+      edges = s ∙ edges-of (held (r .state .frame) l e) m ok listed ∙ ap edgeOut (k .state .graph);
+    }
+
+-- the number is that of the refusal: not 0, or 0
+module _ (o : Objective) (k : ℕ) (l e : List ℤ) (h : k ≡ reduceRefusal o (length l) (length e)) where
+  -- kept where the number is not 0
+  stays : {A : Type 0} (a x : A) → (k ≡ 0 → ⊥) → x ≡ unless (reduceRefusal o (length l) (length e)) a x
+  stays {A} a x n = by k n ∙ ap (λ (j : ℕ). unless j a x) h
+    where
+      by : (j : ℕ) → (j ≡ 0 → ⊥) → x ≡ unless j a x
+      by zero n = absurd (n refl)
+      by (suc j) n = refl
+
+  pub gives-refused : (z : Reduction) → (k ≡ 0 → ⊥) → z ≡ refused k → Gives o l e z l e
+  unfolding reduction linearAfter edgesAfter
+  gives-refused z n s = record {
+    reduction = s ∙ stays (reported (o .n) (outcome o)) (refused k) n ∙ ap (λ (j : ℕ). unless (reduceRefusal o (length l) (length e)) (reported (o .n) (outcome o)) (refused j)) h;
+    linear = stays (outcome o .linear) l n;
+    edges = stays (outcome o .edges) e n;
+  }
+
+  pub gives-done : (z : Reduction) (l′ e′ : List ℤ) → k ≡ 0 → Done o z l′ e′ → Gives o l e z l′ e′
+  unfolding reduction linearAfter edgesAfter
+  gives-done z l′ e′ n d = record {
+    reduction = d .reduction ∙ ap (λ (j : ℕ). unless j (reported (o .n) (outcome o)) (refused j)) (sym n ∙ h);
+    linear = d .linear ∙ ap (λ (j : ℕ). unless j (outcome o .linear) l) (sym n ∙ h);
+    edges = d .edges ∙ ap (λ (j : ℕ). unless j (outcome o .edges) e) (sym n ∙ h);
+  }

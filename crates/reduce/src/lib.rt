@@ -1,0 +1,196 @@
+// The public call: from the caller's lists to the reduced objective, the record and the counts.
+ghost use mathlib.Core.Path.{_≡_};
+ghost use Prim.Native.Nat.{_+_, _<_, _≤_};
+ghost use lib.ListN.{length};
+ghost use Rattle.rules.specs.Objective.{objective};
+ghost use Rattle.rules.specs.Outcome.{outcome};
+ghost use Rattle.rules.specs.Call.{refused, reported};
+ghost use Rattle.accepted.specs.Accept.{Accepted};
+ghost use Rattle.reduce.specs.Gives.{Done, Gives, recordFrom, countsFrom, reportFrom};
+use rules::Counts;
+use rules::Record;
+use rules::Reduction;
+use rules::Step;
+use run::Ended;
+use state::State;
+
+// A refusal: its number, and nothing else.
+fn refusal_of(number: u8) -> Reduction
+    ensures { λ r. ⌜ r ≡ refused number ⌝ }
+{
+    let none = Step {
+        decision: 0,
+        degree: 0,
+        first: 0,
+        second: 0,
+        third: 0,
+        choices: 0,
+    };
+    let record = Record {
+        n: 0,
+        count: 0,
+        constant: 0,
+        states: [0; 64],
+        steps: [none; 64],
+    };
+    let counts = Counts {
+        eliminated: 0,
+        degree_three_eliminated: 0,
+        degree_three_skipped: 0,
+        contracted: 0,
+        weak_contractions: 0,
+        additional_fixed: 0,
+        remaining: 0,
+        passes: 0,
+        blocks_eliminated: 0,
+        block_variables: 0,
+    };
+    Reduction {
+        answer: number,
+        record: record,
+        counts: counts,
+        takes: 0,
+        blocks: 0,
+        units: 0,
+        complete: false,
+    }
+}
+
+// How to grow an answer back.
+fn record_of(s: State) -> Record
+    requires { ⌜ (s .frame .n ≤ 64) × (s .steps .count ≤ 64) ⌝ }
+    ensures { λ r. ⌜ r ≡ recordFrom s ⌝ }
+{
+    let n = s.frame.n;
+    let count = s.steps.count;
+    let states = s.frame.states;
+    let steps = s.steps.list;
+    Record {
+        n: n as u8,
+        count: count as u8,
+        constant: s.frame.constant,
+        states: states,
+        steps: steps,
+    }
+}
+
+fn counts_of(s: State, remaining: usize) -> Counts
+    requires { ⌜ (remaining ≤ 64) × (s .blocks ≤ 32) ⌝ }
+    ensures { λ r. ⌜ r ≡ countsFrom s remaining ⌝ }
+{
+    Counts {
+        eliminated: s.tally.eliminated,
+        degree_three_eliminated: s.tally.three,
+        degree_three_skipped: s.tally.skipped,
+        contracted: s.tally.contracted,
+        weak_contractions: s.tally.weakly,
+        additional_fixed: 0,
+        remaining: remaining as u32,
+        passes: 1 + s.blocks,
+        blocks_eliminated: s.blocks,
+        block_variables: s.tally.in_blocks,
+    }
+}
+
+// "One unit per take and one per block eliminated."
+fn report(ended: Ended, remaining: usize) -> Reduction
+    requires { ⌜ (ended .state .frame .n ≤ 64) × (ended .state .steps .count ≤ 64) × (remaining ≤ 64) × (ended .state .blocks ≤ 32) × (ended .state .takes + ended .state .blocks < 4294967296) ⌝ }
+    ensures { λ r. ⌜ r ≡ reportFrom ended remaining ⌝ }
+{
+    let s = ended.state;
+    let record = record_of(s);
+    let counts = counts_of(s, remaining);
+    let takes = s.takes;
+    let blocks = s.blocks;
+    Reduction {
+        answer: 0,
+        record: record,
+        counts: counts,
+        takes: takes,
+        blocks: blocks,
+        units: takes + blocks,
+        complete: ended.complete,
+    }
+}
+
+// A call that is not refused. The lent outputs are written once, at the end.
+fn accepted(
+    n: usize,
+    weights: &[i64],
+    firsts: &[u32],
+    seconds: &[u32],
+    term_weights: &[i64],
+    fixings: &[u8],
+    switches: u32,
+    budget: u32,
+    linear: &mut [i64],
+    edges: &mut [i64],
+) -> Reduction
+    requires { ⌜ Accepted (objective n (now weights) (now firsts) (now seconds) (now «term_weights») (now fixings) switches budget) (length (now linear)) (length (now edges)) ⌝ }
+    ensures { λ r. ⌜ Done (objective n (now (weights .entry)) (now (firsts .entry)) (now (seconds .entry)) (now («term_weights» .entry)) (now (fixings .entry)) switches budget) r (now (linear .exit)) (now (edges .exit)) ⌝ }
+{
+    let mut lin = [0i64; 64];
+    let mut edg = [0i64; 4096];
+    let frame = graph::begin(
+        &mut lin,
+        &mut edg,
+        n,
+        weights,
+        firsts,
+        seconds,
+        term_weights,
+        fixings,
+    );
+    let ended = run::run(&mut lin, &mut edg, frame, switches, budget);
+    let left = ended.state.frame;
+    let rest = outputs::still_there(left);
+    outputs::write_linear(&mut linear[..], &lin, rest);
+    outputs::write_edges(&mut edges[..], &edg, rest);
+    report(ended, rest.len)
+}
+
+// "Any lengths, numbers and bytes may be passed": a refusal's number with the lent slices unchanged, or the whole reduction.
+pub fn reduce(
+    n: u32,
+    weights: &[i64],
+    firsts: &[u32],
+    seconds: &[u32],
+    term_weights: &[i64],
+    fixings: &[u8],
+    switches: u32,
+    budget: u32,
+    linear: &mut [i64],
+    edges: &mut [i64],
+) -> Reduction
+    ensures { λ r. ⌜ Gives (objective n (now (weights .entry)) (now (firsts .entry)) (now (seconds .entry)) (now («term_weights» .entry)) (now (fixings .entry)) switches budget) (now (linear .entry)) (now (edges .entry)) r (now (linear .exit)) (now (edges .exit)) ⌝ }
+{
+    let l = linear.len();
+    let e = edges.len();
+    let number = refusal::refusal(
+        n,
+        weights,
+        firsts,
+        seconds,
+        term_weights,
+        fixings,
+        switches,
+        budget,
+        l,
+        e,
+    );
+    if number != 0 {
+        return refusal_of(number);
+    }
+    accepted(
+        n as usize,
+        weights,
+        firsts,
+        seconds,
+        term_weights,
+        fixings,
+        switches,
+        budget,
+        &mut linear[..],
+        &mut edges[..],
+    )
+}

@@ -1,0 +1,4 @@
+pub mod Going
+pub mod GoingLaws
+pub mod TurnLaws
+pub mod Along

@@ -1,0 +1,25 @@
+use mathlib.Core.Path.{refl}
+use Rattle.rules.specs.Run as run
+use borrow.Author.Needs.{needs}
+use Rattle.state.proofs.begin.Statement.{statement}
+use Rattle.state.proofs.begin.Tie as tie
+
+returns : tie.Need-returns
+unfolding run.begin
+returns c =
+    let a = c .before .before .before .before .args in
+    let q = c .before .first-queue in (
+      (λ l. record {
+        graph = refl;
+        queue = q .ensures .0 (a .frame .constant) l;
+        kept = q .ensures .1;
+        steps = c .no-steps .ensures;
+        counted = refl;
+        takes = refl;
+        blocks = refl;
+      }),
+      refl,
+    )
+
+pub begin-spec : {M : Type 1} → statement M
+begin-spec = tie.close (tie.spec (λ c κs. search needs) (λ c κs. search needs) returns)

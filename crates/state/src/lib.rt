@@ -1,0 +1,116 @@
+// A state of the run: the frame of its graph, the queue, the steps and the counts, by value. The graph's weights stay in their arrays.
+ghost use mathlib.Core.Path.{_≡_};
+ghost use mathlib.Core.List.{List};
+ghost use Prim.Native.Nat.{_<_, _≤_};
+ghost use lib.IntN.{ℤ};
+ghost use Rattle.rules.specs.Run as run;
+ghost use Rattle.rules.specs.Run.{plus, begin as begun};
+ghost use Rattle.graph.specs.Held.{held};
+ghost use Rattle.state.specs.Holds.{tallyOf, Roomy, Holds, Reducible, Reduces};
+use graph::Frame;
+use graph::Near;
+use queue::Queue;
+use rules::Step;
+use steps::Steps;
+
+// The counts that a reduction adds to.
+pub struct Tally {
+    pub eliminated: u32,
+    pub three: u32,
+    pub skipped: u32,
+    pub contracted: u32,
+    pub weakly: u32,
+    pub in_blocks: u32,
+}
+
+pub struct State {
+    pub frame: Frame,
+    pub queue: Queue,
+    pub steps: Steps,
+    pub tally: Tally,
+    pub takes: u32,
+    pub blocks: u32,
+}
+
+// Each count with what is added to it.
+pub fn more(t: Tally, u: Tally) -> Tally
+    requires { ⌜ Roomy t u ⌝ }
+    ensures { λ r. ⌜ tallyOf r ≡ plus (tallyOf t) (tallyOf u) ⌝ }
+{
+    Tally {
+        eliminated: t.eliminated + u.eliminated,
+        three: t.three + u.three,
+        skipped: t.skipped + u.skipped,
+        contracted: t.contracted + u.contracted,
+        weakly: t.weakly + u.weakly,
+        in_blocks: t.in_blocks + u.in_blocks,
+    }
+}
+
+// A state before anything is taken.
+pub fn begin(edges: &[i64; 4096], frame: Frame, switches: u32) -> State
+    requires { ⌜ frame .n ≤ 64 ⌝ }
+    ensures { λ r. ⌜ ((l : List ℤ) → Holds (begun switches (held frame l (now (edges .entry)))) r l (now (edges .entry))) × (r .frame ≡ frame) ⌝ }
+{
+    let n = frame.n;
+    let states = frame.states;
+    let none = Tally {
+        eliminated: 0,
+        three: 0,
+        skipped: 0,
+        contracted: 0,
+        weakly: 0,
+        in_blocks: 0,
+    };
+    let queue = waiting::first_queue(edges, &states, n, switches);
+    let steps = steps::no_steps();
+    State {
+        frame: frame,
+        queue: queue,
+        steps: steps,
+        tally: none,
+        takes: 0,
+        blocks: 0,
+    }
+}
+
+// After a reduction: its step, its counts, and its neighbours as they were, who may join the queue.
+pub fn reduced(
+    edges: &[i64; 4096],
+    s: State,
+    frame: Frame,
+    step: Step,
+    near: Near,
+    counts: Tally,
+    switches: u32,
+) -> State
+    requires { ⌜ Reducible s frame near counts ⌝ }
+    ensures { λ r. ⌜ Reduces s frame step near counts switches r (now (edges .entry)) ⌝ }
+{
+    let n = frame.n;
+    let states = frame.states;
+    let queue = waiting::rejoin(edges, &states, n, switches, s.queue, near);
+    let steps = steps::with_step(s.steps, step);
+    let tally = more(s.tally, counts);
+    State {
+        frame: frame,
+        queue: queue,
+        steps: steps,
+        tally: tally,
+        takes: s.takes,
+        blocks: s.blocks,
+    }
+}
+
+// "failure adds one to the skipped count"
+pub fn skip(s: State) -> State
+    requires { ⌜ s .tally .skipped < 4294967295 ⌝ }
+    ensures { λ r. ⌜ ((S : run.State) (l e : List ℤ) → Holds S s l e → Holds (run.skipped S) r l e) ⌝ }
+{
+    let before = s.tally.skipped;
+    let mut tally = s.tally;
+    tally.skipped = before + 1;
+    let mut r = s;
+    r.tally = tally;
+    r
+}

@@ -1,0 +1,4 @@
+pub mod Ready
+pub mod NearLaws
+pub mod ThreeLaws
+pub mod WayLaws
