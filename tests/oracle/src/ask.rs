@@ -1,5 +1,5 @@
 //! Reads an objective, puts it to the given Rust, and writes what it says.
-use crate::preprocess::low_degree::{open_reduce, Opened};
+use crate::preprocess::low_degree::{only_reduce, open_reduce, Opened};
 use crate::qubo::Qubo;
 use crate::solver_options::SolverOptions;
 use crate::FixedVarMap;
@@ -52,6 +52,11 @@ pub fn answer(asked: &Asked) -> String {
         Some(opened) => told(&opened),
         None => "none".into(),
     }
+}
+
+/// For timing: whether `reduce` took a step.
+pub fn takes_steps(asked: &Asked) -> bool {
+    only_reduce(&asked.qubo, &asked.fixed, &asked.options)
 }
 
 /// 01's output text without the units line, then the counts, then the plans

@@ -14,3 +14,9 @@ pub fn open_reduce(qubo: &Qubo, fixed: &FixedVarMap, options: &SolverOptions) ->
         .collect();
     Some(Opened { reduction, steps })
 }
+
+/// For timing: `reduce` and nothing else.
+pub fn only_reduce(qubo: &Qubo, fixed: &FixedVarMap, options: &SolverOptions) -> bool {
+    let ample = Duration::from_secs(1_000_000);
+    std::hint::black_box(reduce(qubo, fixed, options, ample, false)).is_some()
+}

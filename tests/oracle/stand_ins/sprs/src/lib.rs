@@ -1,6 +1,5 @@
 //! The little of `sprs` that the given Rust calls. As in `sprs`, entries at the
 //! same place are added up when the matrix is made, and reading goes by rows.
-use std::collections::BTreeMap;
 
 pub struct TriMat<N> {
     shape: (usize, usize),
@@ -19,19 +18,29 @@ impl<N: Copy> TriMat<N> {
 }
 
 impl TriMat<f64> {
+    /// No slower than `sprs`: triplets that come in order are taken as they are.
     pub fn to_csr(&self) -> CsMat<f64> {
-        let mut sums: BTreeMap<(usize, usize), f64> = BTreeMap::new();
-        for &(row, col, value) in &self.triplets {
-            *sums.entry((row, col)).or_insert(0.0) += value;
+        let mut triplets: Vec<_> = self.triplets.iter().map(|&(i, j, v)| (v, (i, j))).collect();
+        if triplets.windows(2).any(|two| two[0].1 >= two[1].1) {
+            triplets.sort_by_key(|&(_, at)| at);
         }
-        CsMat { shape: self.shape, entries: sums.into_iter().map(|(at, v)| (v, at)).collect() }
+        let mut entries: Vec<Entry<f64>> = Vec::with_capacity(triplets.len());
+        for (value, at) in triplets {
+            match entries.last_mut() {
+                Some(last) if last.1 == at => last.0 += value,
+                _ => entries.push((value, at)),
+            }
+        }
+        CsMat { shape: self.shape, entries }
     }
 }
+
+type Entry<N> = (N, (usize, usize));
 
 #[derive(Clone)]
 pub struct CsMat<N> {
     shape: (usize, usize),
-    entries: Vec<(N, (usize, usize))>,
+    entries: Vec<Entry<N>>,
 }
 
 impl<N> CsMat<N> {
@@ -46,9 +55,8 @@ impl<N> CsMat<N> {
 
 impl<'a, N> IntoIterator for &'a CsMat<N> {
     type Item = (&'a N, (usize, usize));
-    type IntoIter = std::vec::IntoIter<Self::Item>;
+    type IntoIter = std::iter::Map<std::slice::Iter<'a, Entry<N>>, fn(&'a Entry<N>) -> Self::Item>;
     fn into_iter(self) -> Self::IntoIter {
-        let entries: Vec<_> = self.entries.iter().map(|(v, at)| (v, *at)).collect();
-        entries.into_iter()
+        self.entries.iter().map(|(value, at)| (value, *at))
     }
 }
