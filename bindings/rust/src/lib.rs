@@ -1,0 +1,57 @@
+//! Shrinks an objective over 0/1 decisions exactly, and grows the answers of the small objective
+//! back into full plans that cost the same.
+//!
+//! The work is done by a static library that is proved to give what its rules say, for every
+//! input. This crate is a thin, safe cover: no call panics, and a call that says no leaves
+//! everything it was lent as it was.
+//!
+//! A hall of four seats blocks. Selling block `i` saves its weight; two blocks sold together cost
+//! their pair's weight. The box office has already sold block 3.
+//!
+//! ```
+//! use balecreak::{Objective, Record};
+//!
+//! let reduction = Objective::new([-3, -4, -2, -6])
+//!     .pair(0, 1, 5)
+//!     .pair(1, 2, 3)
+//!     .pair(2, 3, 4)
+//!     .fix(3, true)
+//!     .reduce()?;
+//!
+//! // Keep these 512 bytes: they are all that growing back needs.
+//! let stored: [u8; 512] = *reduction.record().as_bytes();
+//!
+//! // Solve what is left (here nothing is: every decision was eliminated) ...
+//! let answer = vec![0; reduction.linear().len()];
+//!
+//! // ... and grow the answer back, today or years from now.
+//! let record = Record::from_bytes(&stored)?;
+//! let plan = record.grow_back(&answer)?;
+//! assert_eq!(plan, [0, 1, 0, 1]);
+//! assert_eq!(record.constant(), -10);
+//!
+//! // A full plan's entries for the decisions that are left.
+//! assert_eq!(record.project(&plan)?, answer);
+//! # Ok::<(), balecreak::Refusal>(())
+//! ```
+#![warn(missing_docs)]
+
+pub mod calls;
+mod objective;
+mod record;
+mod reduction;
+mod refusal;
+
+pub use objective::{Objective, Switches};
+pub use record::{Record, State, Step};
+pub use reduction::{Counts, Reduction};
+pub use refusal::Refusal;
+
+/// The length of a record block in bytes.
+pub const BLOCK: usize = 512;
+/// The most decisions an objective can have, and the length of the linear output.
+pub const MOST_DECISIONS: usize = 64;
+/// The length of the edge output.
+pub const EDGES: usize = 4096;
+/// The length of the list of counts.
+pub const COUNTS: usize = 14;

@@ -1,0 +1,120 @@
+//! The call on lent lists, and its outputs in the model's form.
+#![allow(dead_code)]
+use balecreak::{calls, Record, Refusal, State};
+use model::local::Step;
+use model::objective::Objective;
+use model::run::{Counts, Reduction};
+use std::path::PathBuf;
+
+/// What is lent to a reduce.
+#[derive(Clone, Debug, PartialEq)]
+pub struct Lent {
+    pub linear: Vec<i64>,
+    pub edges: Vec<i64>,
+    pub block: Vec<u8>,
+    pub counts: Vec<u32>,
+}
+
+impl Lent {
+    /// Of the right lengths, and full of numbers that no answer has everywhere.
+    pub fn fresh() -> Lent {
+        Lent::sized(64, 4096, 512, 14)
+    }
+
+    pub fn sized(linear: usize, edges: usize, block: usize, counts: usize) -> Lent {
+        Lent {
+            linear: vec![77; linear],
+            edges: vec![-77; edges],
+            block: vec![7; block],
+            counts: vec![777; counts],
+        }
+    }
+
+    pub fn reduce(&mut self, o: &Objective) -> Result<(), Refusal> {
+        calls::reduce(
+            o.n,
+            &o.weights,
+            &o.firsts,
+            &o.seconds,
+            &o.term_weights,
+            &o.fixings,
+            o.switches,
+            o.budget,
+            &mut self.linear,
+            &mut self.edges,
+            &mut self.block,
+            &mut self.counts,
+        )
+    }
+
+    /// The outputs of a call that was not refused.
+    pub fn as_model(&self) -> Reduction {
+        let record = Record::from_bytes(&self.block).expect("a written block is right");
+        let c = &self.counts;
+        assert_eq!((c[11], c[12]), (c[8], c[10] + c[11]), "blocks twice, and units");
+        assert!(c[13] < 2);
+        Reduction {
+            n: record.decisions() as u32,
+            constant: record.constant(),
+            states: (0..record.decisions()).map(|i| state_byte(&record, i)).collect(),
+            steps: record.steps().map(step).collect(),
+            remaining: record.remaining().collect(),
+            linear: self.linear.clone(),
+            edges: self.edges.clone(),
+            counts: Counts {
+                eliminated: c[0],
+                degree_three_eliminated: c[1],
+                degree_three_skipped: c[2],
+                contracted: c[3],
+                weak_contractions: c[4],
+                additional_fixed: c[5],
+                remaining: c[6],
+                passes: c[7],
+                blocks_eliminated: c[8],
+                block_variables: c[9],
+                takes: c[10],
+            },
+            units: c[12],
+            complete: c[13] == 1,
+        }
+    }
+}
+
+fn state_byte(record: &Record, i: usize) -> u8 {
+    match record.state(i).unwrap() {
+        State::Fixed(value) => u8::from(value),
+        State::Remaining => 2,
+        State::Eliminated => 3,
+    }
+}
+
+fn step(step: balecreak::Step) -> Step {
+    Step {
+        decision: step.decision.into(),
+        neighbours: step.neighbours.into_iter().map(usize::from).collect(),
+        choices: step.choices.into_iter().map(u8::from).collect(),
+    }
+}
+
+/// Both runs gave the same, field by field.
+pub fn same(ours: &Reduction, theirs: &Reduction) {
+    assert_eq!(format!("{ours:?}"), format!("{theirs:?}"));
+}
+
+pub fn number(result: Result<(), Refusal>) -> u32 {
+    result.map_or_else(Refusal::number, |()| 0)
+}
+
+/// From the root of the repository.
+pub fn path(name: &str) -> PathBuf {
+    PathBuf::from(env!("CARGO_MANIFEST_DIR")).join("../..").join(name)
+}
+
+/// `COUNT*VALUE COUNT*VALUE ...`
+pub fn list<T: std::str::FromStr + Clone>(text: &str) -> Vec<T> {
+    let run = |part: &str| -> Option<Vec<T>> {
+        let (count, value) = part.split_once('*')?;
+        Some(vec![value.parse().ok()?; count.parse().ok()?])
+    };
+    text.split_whitespace().flat_map(|part| run(part).expect("COUNT*VALUE")).collect()
+}
