@@ -89,7 +89,8 @@ fn wrong_lengths_and_values() {
         assert!(answer == 0 || lent == before);
         met[answer as usize] += 1;
     }
-    assert!([0, 1, 2, 3, 4, 5, 6, 9].iter().all(|&answer: &usize| met[answer] > 0), "{met:?}");
+    let all = [0, 1, 2, 3, 4, 5, 6, 9].iter().all(|&answer: &usize| met[answer] > 0);
+    assert!(all || tries() < 1_000, "{met:?}");
 }
 
 fn spoil(random: &mut Random, o: &mut Objective, sizes: &mut [usize; 4]) {

@@ -4,7 +4,7 @@ ghost use Prim.Native.Nat.{_+_, _≤_};
 ghost use mathlib.Core.List.{[], _∷_};
 ghost use lib.ListN.{length, replicate};
 ghost use lib.Seq.{sets};
-ghost use Rattle.rules.specs.Record.{edition, stepBytes, stepsBytes, body};
+ghost use Rattle.rules.specs.Record.{edition, stepBytes, stepsBytes, body, blockOf};
 ghost use Rattle.record.specs.Promises.{Writes};
 use crate::broken;
 use crate::number;
@@ -81,6 +81,15 @@ fn put_body(block: &mut [u8], r: Record)
     put_zeros(block);
 }
 
+// The whole block.
+pub fn put_record(block: &mut [u8], record: Record)
+    requires { ⌜ length (now block) ≡ 512 ⌝ }
+    ensures { λ _. ⌜ now (block .exit) ≡ blockOf «record» ⌝ }
+{
+    put_body(block, record);
+    sums::put_sums(block);
+}
+
 // 0 and the block, or a refusal's number and the output as it was.
 pub fn write_record(record: Record, block: &mut [u8]) -> u8
     ensures { λ r. ⌜ Writes «record» (now (block .entry)) r (now (block .exit)) ⌝ }
@@ -91,7 +100,6 @@ pub fn write_record(record: Record, block: &mut [u8]) -> u8
     if broken::is_broken(record) {
         return 12;
     }
-    put_body(block, record);
-    sums::put_sums(block);
+    put_record(block, record);
     0
 }

@@ -1,20 +1,9 @@
-use mathlib.Core.Path.{_≡_, sym, ap, _∙_}
-use Prim.Native.Nat.{ℕ}
+use mathlib.Core.Path.{sym, _∙_}
 use borrow.Author.Needs.{needs}
-use mathlib.Core.List.{List}
-use lib.ListN.{length, take}
-use denote.Ref.{now}
-use Rattle.rules.specs.Record.{sealed, blockOf}
 use Rattle.rules.specs.Refuse.{writeRefusal}
-use Rattle.roundtrip.specs.Fields.{Held}
-use Rattle.record.proofs.Stores.{length-mapped}
-use Rattle.record.proofs.Fields.{take-body}
 use Rattle.record.proofs.Rows.{row-hit, row-skip, row-none, alike, unlike, kept-block, done-block}
 use Rattle.record.proofs.write.write_record.Statement.{statement}
 use Rattle.record.proofs.write.write_record.Tie as tie
-
-held : (c : tie.Start) → Held (c .args .«record»)
-held c = record { states = search needs; steps = search (needs, length-mapped) }
 
 returns : tie.Need-returns
 unfolding writeRefusal
@@ -29,11 +18,11 @@ returns-2 c =
     (e, kept-block _ _ 11 e)
 
 returns-3 : tie.Need-returns-3
-unfolding writeRefusal blockOf
+unfolding writeRefusal
 returns-3 c =
-    let s = c .before .before .before .before .before .before .before .before .before .before .before .before in
-    let e = row-skip _ _ _ (alike _ _ (c .before .before .before .before .before .before .before .before .before .before .if1 .left)) (row-skip _ _ _ (sym (c .before .before .before .before .before .before .before .before .before .is-broken .ensures) ∙ c .before .before .before .before .before .before .before .before .if2 .left) row-none) in
-    (e, done-block _ _ _ e (c .before .before .put-sums .ensures ∙ ap sealed (ap (λ (l : List ℕ). take 508 l) (c .before .before .before .before .before .before .put-body .ensures) ∙ take-body (s .args .«record») (held s) (now (s .args .block)) (c .before .before .before .before .before .before .before .before .before .before .if1 .left))))
+    let b = c .before .before .before .before in
+    let e = row-skip _ _ _ (alike _ _ (b .before .before .if1 .left)) (row-skip _ _ _ (sym (b .before .is-broken .ensures) ∙ b .if2 .left) row-none) in
+    (e, done-block _ _ _ e (c .before .before .put-record .ensures))
 
 pub write-record-spec : {M : Type 1} → statement M
 write-record-spec =
@@ -42,7 +31,6 @@ write-record-spec =
     returns
     (λ c κs. search needs)
     returns-2
-    (λ c κs. search needs)
     (λ c κs. search needs)
     (λ c. search needs)
     returns-3)
