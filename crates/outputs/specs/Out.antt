@@ -5,7 +5,7 @@ use mathlib.Core.List.{List, map, _++_}
 use mathlib.Core.Path.{_≡_}
 use mathlib.Core.Bool.{Bool, cond, _&&_}
 use lib.Dec.{ltb, eqb}
-use lib.ListN.{getD, length, take, replicate}
+use lib.ListN.{getD, length, take, drop, replicate}
 use lib.IntN.{ℤ, pos}
 use Rattle.whole.specs.Words.{those, upto, tab}
 use Rattle.outputs.specs.declared.Remaining.{Remaining}
@@ -33,3 +33,11 @@ linearOf l rs = map (λ i. getD l i (pos 0)) rs ++ replicate (64 - length rs) (p
 
 abbrev pub cellOf : List ℤ → List ℕ → ℕ → ℤ
 cellOf e rs k = cond (ltb (k / 64) (length rs) && ltb (k % 64) (length rs)) (getD e (64 * getD rs (k / 64) 0 + getD rs (k % 64) 0) (pos 0)) (pos 0)
+
+-- the output, which held l and had its first a entries by f, has its first b by f
+abbrev pub Fills : (ℕ → ℤ) → ℕ → ℕ → List ℤ → List ℤ → Type 0
+Fills f a b o o′ = (l : List ℤ) → length l ≡ 4096 → o ≡ tab f a ++ drop a l → o′ ≡ tab f b ++ drop b l
+
+-- the rest of an output whose entries from a on are zeros
+abbrev pub Ends : ℕ → List ℤ → List ℤ → Type 0
+Ends a o o′ = (f : ℕ → ℤ) → ((k : ℕ) → a ≤ k → f k ≡ pos 0) → Fills f a 4096 o o′

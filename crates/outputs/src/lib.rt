@@ -4,7 +4,7 @@ ghost use Prim.Native.Nat.{ℕ, _+_, _*_, _<_, _≤_};
 ghost use lib.ListN.{length, getD};
 ghost use lib.IntN.{pos};
 ghost use Rattle.whole.specs.Words.{tab};
-ghost use Rattle.outputs.specs.Out.{rest, activeOf, Places, linearAt, edgeAt};
+ghost use Rattle.outputs.specs.Out.{rest, activeOf, Places, linearAt, edgeAt, Fills, Ends};
 use graph::Frame;
 
 pub struct Remaining {
@@ -59,16 +59,12 @@ pub fn write_linear(out: &mut [i64], lin: &[i64; 64], r: Remaining)
     }
 }
 
-pub fn edge_entry(e: &[i64; 4096], r: Remaining, d: usize) -> i64
-    requires { ⌜ (d < 4096) × Places r ⌝ }
-    ensures { λ z. ⌜ z ≡ edgeAt (now (e .entry)) (r .list) (r .len) d ⌝ }
+// Places a and b of the remaining decisions.
+fn edge_entry(e: &[i64; 4096], r: Remaining, a: usize, b: usize) -> i64
+    requires { ⌜ (a < r .len) × (b < 64) × Places r ⌝ }
+    ensures { λ z. ⌜ z ≡ edgeAt (now (e .entry)) (r .list) (r .len) (64 * a + b) ⌝ }
 {
     let n = r.len;
-    let a = d / 64;
-    let b = d % 64;
-    if n <= a {
-        return 0;
-    }
     if n <= b {
         return 0;
     }
@@ -77,14 +73,47 @@ pub fn edge_entry(e: &[i64; 4096], r: Remaining, d: usize) -> i64
     e[64 * i + j]
 }
 
+fn write_row(out: &mut [i64], e: &[i64; 4096], r: Remaining, a: usize)
+    requires { ⌜ (length (now out) ≡ 4096) × (a < r .len) × Places r ⌝ }
+    ensures { λ _. ⌜ Fills (edgeAt (now (e .entry)) (r .list) (r .len)) (64 * a) (64 * a + 64) (now (out .entry)) (now (out .exit)) ⌝ }
+{
+    let mut b: usize = 0;
+    while b < 64 {
+        let w = edge_entry(e, r, a, b);
+        out[64 * a + b] = w;
+        b = b + 1;
+    }
+}
+
+fn write_rows(out: &mut [i64], e: &[i64; 4096], r: Remaining)
+    requires { ⌜ (length (now out) ≡ 4096) × Places r ⌝ }
+    ensures { λ _. ⌜ Fills (edgeAt (now (e .entry)) (r .list) (r .len)) 0 (64 * r .len) (now (out .entry)) (now (out .exit)) ⌝ }
+{
+    let n = r.len;
+    let mut a: usize = 0;
+    while a < n {
+        write_row(&mut out[..], e, r, a);
+        a = a + 1;
+    }
+}
+
+fn write_zeros(out: &mut [i64], from: usize)
+    requires { ⌜ (length (now out) ≡ 4096) × (from ≤ 4096) ⌝ }
+    ensures { λ _. ⌜ Ends from (now (out .entry)) (now (out .exit)) ⌝ }
+{
+    let mut d = from;
+    while d < 4096 {
+        out[d] = 0;
+        d = d + 1;
+    }
+}
+
+// A row for each remaining decision; the rows below are zeros.
 pub fn write_edges(out: &mut [i64], e: &[i64; 4096], r: Remaining)
     requires { ⌜ (length (now out) ≡ 4096) × Places r ⌝ }
     ensures { λ _. ⌜ now (out .exit) ≡ tab (edgeAt (now (e .entry)) (r .list) (r .len)) 4096 ⌝ }
 {
-    let mut d: usize = 0;
-    while d < 4096 {
-        let w = edge_entry(e, r, d);
-        out[d] = w;
-        d = d + 1;
-    }
+    let n = r.len;
+    write_rows(&mut out[..], e, r);
+    write_zeros(&mut out[..], 64 * n);
 }

@@ -1,58 +1,34 @@
-use Rattle.outputs.specs.Out.{edgeAt}
-use Rattle.whole.specs.Lists.{fill-none, fill-step, fill-end}
-use Rattle.whole.specs.Words.{tab}
-use Rattle.whole.specs.Ints.{rd}
-use borrow.Author.Needs.{needs, sfits-of}
-use lib.ListN.{length, set, drop, length-set}
-use denote.Ref.{now}
+use mathlib.Core.Path.{_≡_, refl, _∙_}
+use Prim.Native.Nat.{ℕ, _*_, _/_, _≤_}
 use native.Mathlib.Omega.{arith}
-use mathlib.Core.List.{List, _++_}
-use mathlib.Core.Path.{_≡_, refl, ap, sym, _∙_}
-use Prim.Native.Nat.{ℕ, _≤_, _<_, _-_, _+_}
-use mir.Val.{ofZ, toZ, SFits}
-use mir.Syntax.{w64}
 use borrow.Author.Needs.{needs}
+use borrow.Author.Tests.{le-ltb}
+use lib.IntN.{ℤ, pos}
+use lib.ListN.{length}
+use mathlib.Core.List.{List}
+use denote.Ref.{now}
+use Rattle.whole.specs.Lists.{fill-none, fill-end}
+use Rattle.outputs.specs.Out.{edgeAt}
 use Rattle.outputs.proofs.write_edges.Statement.{statement}
 use Rattle.outputs.proofs.write_edges.Tie as tie
 
-abbrev Inv-loop : tie.InvT-loop
-Inv-loop out₀ e r d₀ out d = (d ≤ 4096) × (length out ≡ length out₀) × (out ≡ tab (edgeAt e (r .list) (r .len)) d ++ drop d out₀)
+-- past the last remaining decision's row
+below : (e : List ℤ) (list : List ℕ) (r k : ℕ) → 64 * r ≤ k → edgeAt e list r k ≡ pos 0
+below e list r k h =
+    let q : r ≤ k / 64 = omega arith in
+    rw (le-ltb (k / 64) r q)
 
-abbrev μ-loop : tie.MeasureT-loop
-μ-loop out₀ e r d₀ out d = 4096 - d
-
-loop-holds : tie.Need-loop-holds Inv-loop μ-loop
-loop-holds c = (omega arith, refl, fill-none (edgeAt (now (c .args .e)) (c .args .r .list) (c .args .r .len)) (now (c .args .out)))
-
-loop-again : tie.Need-loop-again Inv-loop μ-loop
-loop-again c =
-    let l = c .before .before .loop in
-    let a = c .before .before .before .args in
-    let f : SFits w64 (c .edge-entry .result) = sfits-of (c .edge-entry .ok) in
-    let v = rd f ∙ c .edge-entry .ensures in (
-      omega arith,
-      length-set (l .out) (l .d) (toZ w64 (ofZ w64 (c .edge-entry .result))) ∙ l .inv .1,
-      fill-step (edgeAt (now (a .e)) (a .r .list) (a .r .len)) (now (a .out)) (l .out) (l .d) _ (omega arith) (l .inv .2) v,
-    )
-
-returns : tie.Need-returns Inv-loop μ-loop
+returns : tie.Need-returns
 returns c =
-    let l = c .before .loop in
-    let s = c .before .before in
-    l .inv .2 ∙ fill-end (edgeAt (now (s .args .e)) (s .args .r .list) (s .args .r .len)) (now (s .args .out)) (l .d) 4096 (s .pre .0) (omega arith)
+    let z = c .before in
+    let w = z .before .before .before in
+    let s = w .before .before in
+    let a = s .args in
+    let o = now (a .out) in
+    let f = edgeAt (now (a .e)) (a .r .list) (a .r .len) in
+    z .write-zeros .ensures f (below (now (a .e)) (a .r .list) (a .r .len)) o (s .pre .0) (w .write-rows .ensures o (s .pre .0) (fill-none f o))
+    ∙ fill-end f o 4096 4096 (s .pre .0) refl
 
 pub write-edges-spec : {M : Type 1} → statement M
 write-edges-spec =
-    tie.close
-    (tie.spec
-    Inv-loop
-    μ-loop
-    loop-holds
-    (λ c κs. search needs)
-    (λ c. search needs)
-    (λ c. search needs)
-    (λ c. search needs)
-    (λ c. search needs)
-    loop-again
-    (λ c. search needs)
-    returns)
+    tie.close (tie.spec (λ c κs. search needs) (λ c. search needs) (λ c κs. search needs) (λ c. search needs) returns)
