@@ -1,4 +1,4 @@
-//! Makes the stored lists of tests/vectors.
+//! Makes the stored lists of crates/vectors/data.
 //!   vectors questions                     the objectives to put to the oracle
 //!   vectors lists QUESTIONS ANSWERS DIR   all lists, and a summary on standard output
 mod back;

@@ -1,0 +1,36 @@
+use borrow.Author.Needs.{needs}
+use Prim.Native.Nat.{_≤_, _<_, _-_}
+use Rattle.vectors.proofs.passed.steps_of.Statement.{statement}
+use Rattle.vectors.proofs.passed.steps_of.Tie as tie
+
+abbrev Inv-loop : tie.InvT-loop
+Inv-loop bytes steps₀ k₀ steps k = k ≤ 64
+
+abbrev μ-loop : tie.MeasureT-loop
+μ-loop bytes steps₀ k₀ steps k = 64 - k
+
+pub steps-of-spec : {M : Type 1} → statement M
+steps-of-spec =
+    tie.close
+    (tie.spec
+    Inv-loop
+    μ-loop
+    (λ c. search needs)
+    (λ c. search needs)
+    (λ c κs. search needs)
+    (λ c. search needs)
+    (λ c κs. search needs)
+    (λ c. search needs)
+    (λ c κs. search needs)
+    (λ c. search needs)
+    (λ c κs. search needs)
+    (λ c. search needs)
+    (λ c κs. search needs)
+    (λ c. search needs)
+    (λ c κs. search needs)
+    (λ c. search needs)
+    (λ c. search needs)
+    (λ c. search needs)
+    (λ c. search needs)
+    (λ c. search needs)
+    (λ c. search needs))
