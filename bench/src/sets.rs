@@ -38,7 +38,8 @@ fn set(name: &'static str, n: usize, pairs: impl Fn(&mut Random) -> Pairs) -> Se
 }
 
 fn weighted(random: &mut Random, n: usize, pairs: &impl Fn(&mut Random) -> Pairs) -> Objective {
-    let mut o = Objective { n: n as u32, budget: u32::MAX, fixings: vec![2; n], ..Objective::default() };
+    let mut o =
+        Objective { n: n as u32, budget: u32::MAX, fixings: vec![2; n], ..Objective::default() };
     o.weights = (0..n).map(|_| random.between(-100, 100)).collect();
     for (i, j) in pairs(random) {
         let w = random.between(1, 100);
