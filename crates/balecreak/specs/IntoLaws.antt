@@ -6,7 +6,7 @@ use Prim.Native.Nat.{ℕ, zero, suc}
 use lib.ListN.{length}
 use lib.IntN.{ℤ}
 use Rattle.rules.specs.Objective.{Objective}
-use Rattle.rules.specs.Outcome.{Outcome, outcome}
+use Rattle.rules.specs.Outcome.{outcome}
 use Rattle.rules.specs.Record.{blockOf}
 use Rattle.rules.specs.Refuse.{reduceRefusal}
 use Rattle.rules.specs.Call.{unless, refused, reported, reduction, linearAfter, edgesAfter}

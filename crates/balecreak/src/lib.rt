@@ -1,7 +1,5 @@
 // The public calls for vendors, on numbers and slices alone: a slice goes as a pointer and a length.
 ghost use mathlib.Core.Path.{_≡_};
-ghost use Prim.Native.Nat.{ℕ};
-ghost use mathlib.Core.List.{List};
 ghost use lib.ListN.{length};
 ghost use Rattle.whole.specs.Words.{oneIf};
 ghost use Rattle.rules.specs.Objective.{objective};

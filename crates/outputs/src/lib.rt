@@ -1,8 +1,7 @@
 // The outputs, over the remaining decisions alone.
 ghost use mathlib.Core.Path.{_≡_};
-ghost use Prim.Native.Nat.{ℕ, _+_, _*_, _<_, _≤_};
-ghost use lib.ListN.{length, getD};
-ghost use lib.IntN.{pos};
+ghost use Prim.Native.Nat.{_+_, _*_, _<_, _≤_};
+ghost use lib.ListN.{length};
 ghost use Rattle.whole.specs.Words.{tab};
 ghost use Rattle.outputs.specs.Out.{rest, activeOf, Places, linearAt, edgeAt, Fills, Ends};
 use graph::Frame;

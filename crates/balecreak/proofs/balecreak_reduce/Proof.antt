@@ -1,4 +1,4 @@
-use mathlib.Core.Path.{_≡_, sym, _∙_}
+use mathlib.Core.Path.{sym, _∙_}
 use borrow.Author.Needs.{needs}
 use Rattle.balecreak.specs.RowLaws.{lent-fine}
 use Rattle.balecreak.specs.IntoLaws.{lent-into, refused-into, accepted-into}

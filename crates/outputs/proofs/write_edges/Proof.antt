@@ -4,7 +4,6 @@ use native.Mathlib.Omega.{arith}
 use borrow.Author.Needs.{needs}
 use borrow.Author.Tests.{le-ltb}
 use lib.IntN.{ℤ, pos}
-use lib.ListN.{length}
 use mathlib.Core.List.{List}
 use denote.Ref.{now}
 use Rattle.whole.specs.Lists.{fill-none, fill-end}

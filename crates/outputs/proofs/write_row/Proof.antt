@@ -1,15 +1,11 @@
-use mathlib.Core.Path.{_≡_, refl, sym, ap, _∙_}
-use mathlib.Core.List.{List, _++_}
+use mathlib.Core.Path.{_≡_, refl, _∙_}
 use Prim.Native.Nat.{ℕ, _+_, _*_, _-_, _<_, _≤_}
 use native.Mathlib.Omega.{arith}
 use borrow.Author.Needs.{needs, sfits-of}
 use mir.Val.{ofZ, toZ, SFits}
 use mir.Syntax.{w64}
-use lib.IntN.{ℤ}
-use lib.ListN.{length, drop, length-set}
-use denote.Ref.{now}
+use lib.ListN.{length, length-set}
 use Rattle.whole.specs.Ints.{rd}
-use Rattle.whole.specs.Words.{tab}
 use Rattle.whole.specs.Lists.{fill-step}
 use Rattle.outputs.specs.Out.{edgeAt, Fills}
 use Rattle.outputs.proofs.Filling.{filled-at}

@@ -1,11 +1,8 @@
 use mathlib.Core.Path.{_≡_, refl, _∙_}
-use mathlib.Core.List.{List, _++_}
-use Prim.Native.Nat.{ℕ, _+_, _*_, _-_, _≤_}
+use Prim.Native.Nat.{_+_, _*_, _-_, _≤_}
 use native.Mathlib.Omega.{arith}
 use borrow.Author.Needs.{needs}
-use lib.ListN.{length, drop}
-use denote.Ref.{now}
-use Rattle.whole.specs.Words.{tab}
+use lib.ListN.{length}
 use Rattle.outputs.specs.Out.{edgeAt, Fills}
 use Rattle.outputs.proofs.Filling.{filled-at}
 use Rattle.outputs.proofs.write_rows.Statement.{statement}

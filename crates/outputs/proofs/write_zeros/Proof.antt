@@ -1,11 +1,10 @@
-use mathlib.Core.Path.{_≡_, refl, sym, ap, _∙_}
-use mathlib.Core.List.{List, _++_}
-use Prim.Native.Nat.{ℕ, _+_, _-_, _<_, _≤_}
+use mathlib.Core.Path.{_≡_, refl, sym, _∙_}
+use mathlib.Core.List.{List}
+use Prim.Native.Nat.{ℕ, _-_, _≤_}
 use native.Mathlib.Omega.{arith}
 use borrow.Author.Needs.{needs}
 use lib.IntN.{ℤ, pos}
-use lib.ListN.{length, drop, length-set}
-use Rattle.whole.specs.Words.{tab}
+use lib.ListN.{length, length-set}
 use Rattle.whole.specs.Lists.{fill-step}
 use Rattle.outputs.specs.Out.{Fills}
 use Rattle.outputs.proofs.Filling.{filled-at}
