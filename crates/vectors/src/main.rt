@@ -26,7 +26,7 @@ fn verdict(name: &[u8], t: Tally) {
 // The entries from a place of the file on.
 fn run_part(fd: i32, place: u64, kind: Kind, lines: usize, bases: &[u8], t: Tally) -> Part {
     let mut text = io::large_buffer();
-    let got = libc::pread(fd, &mut text, record::number::of_twos(place));
+    let got = libc::pread(fd, &mut text, lists::place::signed(place));
     let n = io::count(got, &text);
     tally::over(&text[..n], kind, lines, bases, t)
 }

@@ -99,7 +99,7 @@ pub fn agrees(line: &[u8]) -> bool {
     let record = Record {
         n: byte(n.value),
         count: byte(count.value),
-        constant: record::number::of_twos(constant.value),
+        constant: place::signed(constant.value),
         states,
         steps: steps_of(&bytes),
     };
