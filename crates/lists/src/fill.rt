@@ -124,10 +124,25 @@ pub fn weights_of(from: &[u64], count: usize, out: &mut [i64]) -> bool {
         if out.len() <= i {
             return false;
         }
-        out[i] = record::number::of_twos(from[i]);
+        out[i] = place::signed(from[i]);
         i = i + 1;
     }
     true
+}
+
+// The byte `count` times, from a place on. The place after, or LOST where there is no room.
+pub fn repeat(out: &mut [u8], from: usize, count: u64, b: u8) -> usize {
+    let mut n = from;
+    let mut left = count;
+    while 0 < left {
+        if out.len() <= n {
+            return LOST;
+        }
+        out[n] = b;
+        n = n + 1;
+        left = left - 1;
+    }
+    n
 }
 
 // The bytes that hex digits write, from a place on, up to the first byte that is no digit.

@@ -1,6 +1,7 @@
 // One byte, one number, and the place after it.
 ghost use mathlib.Core.Path.{_≡_};
 ghost use Prim.Native.Nat.{_≤_};
+ghost use lib.IntN.{pos};
 
 // No line is this long.
 pub const LOST: usize = 18_446_744_073_709_551_615;
@@ -89,6 +90,22 @@ pub fn bits(line: &[u8], at: usize) -> Found {
             return nothing();
         }
         r
+    }
+}
+
+fn plain(v: u64) -> i64
+    requires { ⌜ v ≤ 9223372036854775807 ⌝ }
+    ensures { λ r. ⌜ r ≡ pos v ⌝ }
+{
+    v as i64
+}
+
+// What 64 bits of two's complement write.
+pub fn signed(v: u64) -> i64 {
+    if v <= 9223372036854775807 {
+        plain(v)
+    } else {
+        -1 - plain(18446744073709551615 - v)
     }
 }
 

@@ -11,6 +11,11 @@ pub fn number(line: &[u8], at: usize, v: u64, end: u8) -> usize {
     place::pass(line, r.next, end)
 }
 
+// The same of a number of 32 bits.
+pub fn narrow(line: &[u8], at: usize, v: u32, end: u8) -> usize {
+    number(line, at, v as u64, end)
+}
+
 // `;` stands for a newline.
 pub fn text(line: &[u8], at: usize, came: &[u8]) -> usize {
     let mut p = at;
@@ -21,6 +26,14 @@ pub fn text(line: &[u8], at: usize, came: &[u8]) -> usize {
         j = j + 1;
     }
     p
+}
+
+// The first n of them.
+pub fn front(line: &[u8], at: usize, came: &[u8], n: usize) -> usize {
+    if came.len() < n {
+        return LOST;
+    }
+    text(line, at, &came[0..n])
 }
 
 // The same bytes.
