@@ -1,10 +1,14 @@
 // Runs the stored lists and writes how many entries of each ran and agreed.
 use libc::STDOUT_FILENO;
 
+mod plans; // back.txt
+mod calls; // refusals.txt, crowded.txt
 mod damage; // a block, damaged
+mod objectives; // objectives.txt, budgets.txt
 mod passed; // passed.txt
 mod records; // records.txt
 mod tally; // the entries of a list
+mod texts; // texts.txt
 
 use tally::Kind;
 use tally::Part;
@@ -54,6 +58,15 @@ fn run(path: &[u8], kind: Kind, lines: usize, bases: &[u8]) -> Tally {
 fn run_all(bases: &[u8]) {
     verdict(b"records", run(b"records.txt", Kind::Records, 1, bases));
     verdict(b"passed", run(b"passed.txt", Kind::Passed, 1, bases));
+    verdict(b"back", run(b"back.txt", Kind::Back, 1, bases));
+    verdict(b"texts", run(b"texts.txt", Kind::Texts, 1, bases));
+    verdict(b"refusals", run(b"refusals.txt", Kind::Refusals, 1, bases));
+    verdict(
+        b"objectives",
+        run(b"objectives.txt", Kind::Objectives, 3, bases),
+    );
+    verdict(b"crowded", run(b"crowded.txt", Kind::Crowded, 3, bases));
+    verdict(b"budgets", run(b"budgets.txt", Kind::Objectives, 3, bases));
 }
 
 fn main() {

@@ -7,7 +7,9 @@ use rules::Record;
 use rules::Step;
 
 // Six bytes a step, in the block's order.
-fn steps_of(bytes: &[u8]) -> [Step; 64] {
+pub fn steps_at(bytes: &[u8], first: usize) -> [Step; 64]
+    requires { ⌜ first ≤ 76 ⌝ }
+{
     let none = Step {
         decision: 0,
         degree: 0,
@@ -19,7 +21,7 @@ fn steps_of(bytes: &[u8]) -> [Step; 64] {
     let mut steps = [none; 64];
     let mut k = 0;
     while k < 64 {
-        let at = 6 * k;
+        let at = first + 6 * k;
         steps[k] = Step {
             decision: place::byte_at(bytes, at),
             degree: place::byte_at(bytes, at + 1),
@@ -101,7 +103,7 @@ pub fn agrees(line: &[u8]) -> bool {
         count: byte(count.value),
         constant: place::signed(constant.value),
         states,
-        steps: steps_of(&bytes),
+        steps: steps_at(&bytes, 0),
     };
     writes(line, b.next, record, length.value)
 }

@@ -1,12 +1,21 @@
 // The entries of a list, one after the other.
 ghost use Prim.Native.Nat.{_≤_};
 ghost use lib.ListN.{length};
+use crate::calls;
+use crate::objectives;
 use crate::passed;
+use crate::plans;
 use crate::records;
+use crate::texts;
 
 pub enum Kind {
     Records,
     Passed,
+    Texts,
+    Objectives,
+    Refusals,
+    Crowded,
+    Back,
 }
 
 // How many ran, how many agreed, and the first that does not.
@@ -58,6 +67,11 @@ fn agrees(kind: Kind, entry: &[u8], bases: &[u8]) -> bool {
     match kind {
         Kind::Records => records::agrees(entry, bases),
         Kind::Passed => passed::agrees(entry),
+        Kind::Texts => texts::agrees(entry),
+        Kind::Objectives => objectives::agrees(entry),
+        Kind::Refusals => calls::agrees(entry, false),
+        Kind::Crowded => calls::agrees(entry, true),
+        Kind::Back => plans::agrees(entry, bases),
     }
 }
 
