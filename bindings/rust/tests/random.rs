@@ -2,10 +2,9 @@
 //! every plan. BALECREAK_TRIES makes the runs longer or shorter (2,000 without it).
 mod common;
 use balecreak::{calls, Objective as Built, Record};
-use common::{number, same, Lent};
+use common::{every_plan, number, same, Lent};
 use model::back::{grow_back_block, project_block};
 use model::generator::{any_size, crowded, objective};
-use model::graph::Graph;
 use model::objective::{refusal, Objective};
 use model::random::Random;
 use model::record::{read, seal, write};
@@ -156,49 +155,13 @@ fn both_ways(block: &[u8], lent: &[u8], out: usize) {
     assert_eq!(ours.map_err(|r| r.number()), project_block(block, lent, out));
 }
 
-/// Demand 3: every answer grown back costs, in the objective as it was given, what it costs in the
-/// reduced one; and no plan that keeps the fixings costs less than its projection.
 #[test]
 fn every_plan_of_small_objectives() {
     let mut random = Random(5);
     for k in 0..tries() / 8 {
         let n = if k % 10 == 9 { 14 } else { random.below(12) };
-        let o = drawn(&mut random, n);
-        let mut lent = Lent::fresh();
-        assert_eq!(number(lent.reduce(&o)), 0);
-        let record = Record::from_bytes(&lent.block).unwrap();
-        let original = Graph::built(&o);
-        let r = lent.counts[6] as usize;
-        assert_eq!(record.remaining().count(), r);
-        for answer in plans(r) {
-            let plan = record.grow_back(&answer).unwrap();
-            assert_eq!(original.cost(&plan), reduced_cost(&record, &lent, &answer));
-            assert!(keeps_fixings(&o, &plan));
-            assert_eq!(record.project(&plan).unwrap(), answer);
-        }
-        for plan in plans(n).filter(|plan| keeps_fixings(&o, plan)) {
-            let answer = record.project(&plan).unwrap();
-            assert!(reduced_cost(&record, &lent, &answer) <= original.cost(&plan));
-        }
+        every_plan(&drawn(&mut random, n));
     }
-}
-
-fn plans(count: usize) -> impl Iterator<Item = Vec<u8>> {
-    (0..1u64 << count).map(move |m| (0..count).map(|k| (m >> k & 1) as u8).collect())
-}
-
-fn keeps_fixings(o: &Objective, plan: &[u8]) -> bool {
-    o.fixings.iter().zip(plan).all(|(&f, &x)| f == 2 || f == x)
-}
-
-fn reduced_cost(record: &Record, lent: &Lent, answer: &[u8]) -> i64 {
-    let on = |i: usize| answer[i] == 1;
-    let mut cost = record.constant();
-    for i in (0..answer.len()).filter(|&i| on(i)) {
-        cost += lent.linear[i];
-        cost += (0..i).filter(|&j| on(j)).map(|j| lent.edges[64 * i + j]).sum::<i64>();
-    }
-    cost
 }
 
 #[test]

@@ -2,7 +2,7 @@
 //! `passed.txt` is about a record passed in, which no vendor's call takes.)
 mod common;
 use balecreak::calls;
-use common::{list, number, path, Lent};
+use common::{every_plan, list, number, path, Lent};
 use model::objective::Objective;
 use model::record::seal;
 use model::text::{read_within, with_semicolons, written};
@@ -10,7 +10,7 @@ use model::told::counts;
 use std::fs::read_to_string;
 
 fn lines(name: &str) -> Vec<String> {
-    let text = read_to_string(path("tests/vectors").join(name)).unwrap();
+    let text = read_to_string(path("crates/vectors/data").join(name)).unwrap();
     text.lines().map(String::from).collect()
 }
 
@@ -31,6 +31,23 @@ fn objectives(name: &str) -> usize {
         gives(&o, &entry[1], &entry[2]);
     }
     lines.len() / 3
+}
+
+/// How many of a list have at most 12 decisions; every filling and every full plan of them is tried.
+fn small(name: &str) -> usize {
+    let lines = lines(name);
+    let read =
+        |entry: &[String]| read_within(entry[0].replace(';', "\n").as_bytes(), 1 << 20, 4096);
+    let all = lines.chunks_exact(3).map(|entry| read(entry).expect("an objective"));
+    let small: Vec<Objective> = all.filter(|o| o.n <= 12).collect();
+    small.iter().for_each(every_plan);
+    small.len()
+}
+
+#[test]
+fn every_plan_of_small_vectors() {
+    let met = [small("objectives.txt"), small("budgets.txt")];
+    assert!(met[0] > 400 && met[1] > 100, "{met:?}");
 }
 
 #[test]

@@ -1,6 +1,7 @@
 //! The call on lent lists, and its outputs in the model's form.
 #![allow(dead_code)]
 use balecreak::{calls, Record, Refusal, State};
+use model::graph::Graph;
 use model::local::Step;
 use model::objective::Objective;
 use model::run::{Counts, Reduction};
@@ -117,4 +118,45 @@ pub fn list<T: std::str::FromStr + Clone>(text: &str) -> Vec<T> {
         Some(vec![value.parse().ok()?; count.parse().ok()?])
     };
     text.split_whitespace().flat_map(|part| run(part).expect("COUNT*VALUE")).collect()
+}
+
+/// Demand 3 of an objective: every answer grown back costs, in the objective as it was given, what
+/// it costs in the reduced one; and no plan that keeps the fixings costs less than its projection.
+pub fn every_plan(o: &Objective) {
+    let mut lent = Lent::fresh();
+    assert_eq!(number(lent.reduce(o)), 0);
+    let record = Record::from_bytes(&lent.block).unwrap();
+    let original = Graph::built(o);
+    let r = lent.counts[6] as usize;
+    assert_eq!(record.remaining().count(), r);
+    for answer in plans(r) {
+        let plan = record.grow_back(&answer).unwrap();
+        assert_eq!(original.cost(&plan), reduced_cost(&record, &lent, &answer));
+        assert!(keeps_fixings(o, &plan));
+        assert_eq!(record.project(&plan).unwrap(), answer);
+    }
+    for plan in plans(o.n as usize).filter(|plan| keeps_fixings(o, plan)) {
+        let answer = record.project(&plan).unwrap();
+        let cost = original.cost(&plan);
+        assert!(reduced_cost(&record, &lent, &answer) <= cost);
+        assert!(original.cost(&record.grow_back(&answer).unwrap()) <= cost);
+    }
+}
+
+fn plans(count: usize) -> impl Iterator<Item = Vec<u8>> {
+    (0..1u64 << count).map(move |m| (0..count).map(|k| (m >> k & 1) as u8).collect())
+}
+
+fn keeps_fixings(o: &Objective, plan: &[u8]) -> bool {
+    o.fixings.iter().zip(plan).all(|(&f, &x)| f == 2 || f == x)
+}
+
+fn reduced_cost(record: &Record, lent: &Lent, answer: &[u8]) -> i64 {
+    let on = |i: usize| answer[i] == 1;
+    let mut cost = record.constant();
+    for i in (0..answer.len()).filter(|&i| on(i)) {
+        cost += lent.linear[i];
+        cost += (0..i).filter(|&j| on(j)).map(|j| lent.edges[64 * i + j]).sum::<i64>();
+    }
+    cost
 }
