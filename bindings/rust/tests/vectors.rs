@@ -159,3 +159,27 @@ fn back() {
     }
     assert!(met[0] > 100 && met[1] > 100);
 }
+
+/// "Steps 0 (choices 1, 0) and 1 (choice 1), constant −4; grown back 0, 1."
+#[test]
+fn example_d() {
+    let d = balecreak::Objective::new([-3, -4]).pair(0, 1, 5).switch_bits(1).reduce().unwrap();
+    let steps: Vec<_> = d.record().steps().map(|s| (s.decision, s.choices)).collect();
+    assert_eq!(steps, [(0, vec![true, false]), (1, vec![true])]);
+    assert_eq!(d.constant(), -4);
+    assert_eq!(d.record().grow_back(&[]).unwrap(), [0, 1]);
+}
+
+/// "choices of 2 are (1, 0), of 3 are (1, 1); constant −3, a1 = 2, passes 2, units 1."
+#[test]
+fn example_j() {
+    let hall = balecreak::Objective::new([0, 0, -1, -1]).pair(0, 1, 1).pair(1, 2, 2).pair(2, 3, -1);
+    let j = hall.switch_bits(8).reduce().unwrap();
+    let steps: Vec<_> = j.record().steps().map(|s| (s.decision, s.choices)).collect();
+    assert_eq!(steps, [(2, vec![true, false]), (3, vec![true, true])]);
+    assert_eq!((j.constant(), j.linear()), (-3, &[0, 2][..]));
+    assert_eq!((j.counts().passes, j.counts().units), (2, 1));
+    assert_eq!(j.record().grow_back(&[1, 1]).unwrap(), [1, 1, 0, 1]);
+    assert_eq!(j.record().grow_back(&[1, 0]).unwrap(), [1, 0, 1, 1]);
+    assert_eq!(j.record().project(&[0, 1, 0, 1]).unwrap(), [0, 1]);
+}
