@@ -9,10 +9,11 @@ use lib.ListN.{length}
 use lib.IntN.{ℤ}
 use Rattle.whole.specs.Words.{oneOf, oneIf}
 use Rattle.rules.specs.Objective.{Objective}
-use Rattle.rules.specs.Record.{blockOf}
-use Rattle.rules.specs.Refuse.{firstRow, over, badLengths, badIndex, badFixing, tooHeavy}
+use Rattle.rules.specs.Record.{recordIn, blockOf}
+use Rattle.rules.specs.Refuse.{firstRow, over, badLengths, badIndex, badFixing, tooHeavy, blockRows}
 use Rattle.rules.specs.Call.{unless, reduction, linearAfter, edgesAfter}
 use Rattle.rules.specs.declared.Reduction.{Reduction}
+use Rattle.back.specs.Calls.{Answers, one-result}
 
 -- The table once more, for outputs that are l, e, b and c long: the list of counts is one of row 2's lengths, the block has a row of its own.
 unfoldable pub intoRefusal : Objective → ℕ → ℕ → ℕ → ℕ → ℕ
@@ -61,3 +62,15 @@ pub into-one : {k : ℕ} {o : Objective} {l e : List ℤ} {b c : List ℕ} {m n 
     → GivesInto k o l e b c m l′ e′ b′ c′ → GivesInto k o l e b c n l″ e″ b″ c″ → (m ≡ n) × (l′ ≡ l″) × (e′ ≡ e″) × (b′ ≡ b″) × (c′ ≡ c″)
 into-one x y =
     (x .number-is ∙ sym (y .number-is), x .linear-is ∙ sym (y .linear-is), x .edges-is ∙ sym (y .edges-is), x .block-is ∙ sym (y .block-is), x .counts-is ∙ sym (y .counts-is))
+
+-- ---- balecreak_copy of the block b, with an output that holds `out`: the record that is read is written anew
+-- the output is to be a block too: row 9 for either length
+unfoldable pub copyRefusal : List ℕ → ℕ → ℕ
+copyRefusal b out = firstRow ((9, not (eqb out 512)) ∷ blockRows b)
+
+abbrev pub Copied : List ℕ → List ℕ → ℕ → List ℕ → Type 0
+Copied b out = Answers (copyRefusal b (length out)) (blockOf (recordIn b)) out
+
+-- any two results that meet it are equal
+pub copied-one : (b out : List ℕ) {m n : ℕ} {x y : List ℕ} → Copied b out m x → Copied b out n y → (m ≡ n) × (x ≡ y)
+copied-one b out = one-result

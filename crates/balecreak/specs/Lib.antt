@@ -1,3 +1,4 @@
 pub mod Calls
+pub mod CopyLaws
 pub mod RowLaws
 pub mod IntoLaws

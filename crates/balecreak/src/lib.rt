@@ -5,7 +5,7 @@ ghost use Rattle.whole.specs.Words.{oneIf};
 ghost use Rattle.rules.specs.Objective.{objective};
 ghost use Rattle.rules.specs.Refuse.{readRefusal};
 ghost use Rattle.back.specs.Calls.{GrownBackBlock, ProjectedBlock};
-ghost use Rattle.balecreak.specs.Calls.{listed, ReducedInto};
+ghost use Rattle.balecreak.specs.Calls.{listed, ReducedInto, Copied};
 ghost use Rattle.balecreak.specs.RowLaws.{lentRefusal};
 use rules::Reduction;
 
@@ -161,6 +161,22 @@ pub extern "C" fn balecreak_check(block: &[u8]) -> u32
 {
     let reading = record::read::read_record(block);
     reading.answer as u32
+}
+
+// The record that a block holds, written anew. Refuses with 9 to 12; 9 for either length.
+#[no_mangle]
+pub extern "C" fn balecreak_copy(block: &[u8], out: &mut [u8]) -> u32
+    ensures { λ r. ⌜ Copied (now (block .entry)) (now (out .entry)) r (now (out .exit)) ⌝ }
+{
+    if out.len() != 512 {
+        return 9;
+    }
+    let reading = record::read::read_record(block);
+    if reading.answer != 0 {
+        return reading.answer as u32;
+    }
+    record::write::put_record(out, reading.record);
+    0
 }
 
 // Refuses with 9 to 12, 7, 8.
