@@ -29,7 +29,7 @@ enum balecreak_answer {
     BALECREAK_FIXING_BYTE = 4,        /* a fixing byte over 2 */
     BALECREAK_SWITCH = 5,             /* a switch bit above bit 3 */
     BALECREAK_SIZE = 6,               /* the absolute values of all weights total over 2^40 */
-    BALECREAK_BLOCK_LENGTH = 9,       /* the record block is not 512 bytes long */
+    BALECREAK_BLOCK_LENGTH = 9,       /* the record block, read or written, is not 512 bytes long */
     BALECREAK_BLOCK_CHECK = 10,       /* its check is wrong: it was damaged, or is no record block */
     BALECREAK_BLOCK_EDITION = 11,     /* it is of another edition */
     BALECREAK_BLOCK_BODY = 12,        /* its check is right, and its body is none that a reduction writes */
@@ -98,6 +98,12 @@ uint32_t balecreak_reduce(uint32_t n,
 /* Whether a block can be read. Answers 0 and 9 to 12. One or two changed bytes never pass. */
 uint32_t balecreak_check(const uint8_t *block, size_t block_len);
 
+/* Reads a block and writes the record that it holds anew, with its own check, into an output of 512
+ * bytes: as balecreak_check and a copy in one, from a buffer that you do not trust into memory that
+ * you do. After BALECREAK_OK the output holds the same bytes as the block; a block that cannot be
+ * read never gets there. Answers 0 and 9 to 12: 9 where either is not 512 long. */
+uint32_t balecreak_copy(const uint8_t *block, size_t block_len, uint8_t *out, size_t out_len);
+
 /* Grows an answer (a byte 0 or 1 for each remaining decision, ascending) back into a plan n long
  * that costs, in the objective as it was given, what the answer costs in the reduced one.
  * Answers 0 and 9 to 12, 7, 8. */
@@ -111,7 +117,7 @@ uint32_t balecreak_project(const uint8_t *block, size_t block_len,
                            const uint8_t *plan, size_t plan_len,
                            uint8_t *out, size_t out_len);
 
-/* ---- reading a block that balecreak_reduce wrote or balecreak_check passed */
+/* ---- reading a block that balecreak_reduce or balecreak_copy wrote or balecreak_check passed */
 
 /* n: the length of a plan */
 static inline size_t balecreak_decisions(const uint8_t *block) { return block[1]; }

@@ -48,7 +48,7 @@ static void expect(int held, const char *what) {
 
 /* Reduces, tries every answer of what is left, grows the best one back; gives its cost. */
 static int64_t solve(uint32_t switches, uint32_t budget) {
-    uint8_t block[BALECREAK_BLOCK], best[N] = {0}, plan[N], again[N];
+    uint8_t block[BALECREAK_BLOCK], stored[BALECREAK_BLOCK], best[N] = {0}, plan[N], again[N];
     uint32_t counts[BALECREAK_COUNTS];
     if (reduce(switches, budget, block, sizeof block, counts) != BALECREAK_OK) return INT64_MAX;
     uint32_t r = counts[BALECREAK_REMAINING];
@@ -63,10 +63,12 @@ static int64_t solve(uint32_t switches, uint32_t budget) {
         }
     }
     expect(balecreak_check(block, sizeof block) == BALECREAK_OK, "the block passes its check");
-    expect(balecreak_grow_back(block, sizeof block, best, r, plan, N) == BALECREAK_OK, "grown back");
+    expect(balecreak_copy(block, sizeof block, stored, sizeof stored) == BALECREAK_OK, "copied");
+    expect(memcmp(stored, block, sizeof block) == 0, "the copy is the block");
+    expect(balecreak_grow_back(stored, sizeof stored, best, r, plan, N) == BALECREAK_OK, "grown back");
     expect(full_cost(plan) == least, "the plan costs what its answer costs");
     expect(plan[9] == 1, "the fixed block stays sold");
-    expect(balecreak_project(block, sizeof block, plan, N, again, N) == BALECREAK_OK, "projected");
+    expect(balecreak_project(stored, sizeof stored, plan, N, again, N) == BALECREAK_OK, "projected");
     expect(memcmp(again, best, r) == 0, "the projected plan is the answer");
     printf("switches %2u budget %3u: %u of %d left, constant %3lld, least cost %lld, open:", switches, budget, r, N,
            (long long)balecreak_constant(block), (long long)least);
@@ -99,13 +101,20 @@ int main(void) {
     expect(balecreak_check(block, sizeof block) == BALECREAK_BLOCK_CHECK, "no record");
     expect(balecreak_check(NULL, 0) == BALECREAK_BLOCK_LENGTH, "no block");
 
-    /* One byte of a record changed anywhere is found. */
+    /* One byte of a record changed anywhere is found, and never copied. */
+    uint8_t stored[BALECREAK_BLOCK];
+    memcpy(stored, kept, sizeof stored);
     expect(reduce(15, 100, block, sizeof block, counts) == BALECREAK_OK, "reduced");
     for (int k = 0; k < BALECREAK_BLOCK; k++) {
         block[k] ^= 1;
         expect(balecreak_check(block, sizeof block) == BALECREAK_BLOCK_CHECK, "a changed byte");
+        expect(balecreak_copy(block, sizeof block, stored, sizeof stored) == BALECREAK_BLOCK_CHECK, "a changed byte copied");
         block[k] ^= 1;
     }
+    expect(balecreak_copy(block, sizeof block, stored, 511) == BALECREAK_BLOCK_LENGTH, "an output of 511 bytes");
+    expect(balecreak_copy(block, 511, stored, sizeof stored) == BALECREAK_BLOCK_LENGTH, "511 bytes copied");
+    expect(balecreak_copy(NULL, 0, NULL, 0) == BALECREAK_BLOCK_LENGTH, "nothing copied");
+    expect(memcmp(stored, kept, sizeof kept) == 0, "the output is as it was");
     printf("%s\n", failures ? "FAILED" : "all as expected");
     return failures != 0;
 }

@@ -9,11 +9,11 @@
 #include <sys/mman.h>
 
 enum { SIZE = 1 << 20, PAINT = 0xA5, N = 64 };
-enum call { REDUCE, CHECK, GROW_BACK, PROJECT, NOTHING };
+enum call { REDUCE, CHECK, COPY, GROW_BACK, PROJECT, NOTHING };
 
 static int64_t weights[N], term_weights[BALECREAK_MOST_TERMS], linear[BALECREAK_LINEAR], edges[BALECREAK_EDGES];
 static uint32_t firsts[BALECREAK_MOST_TERMS], seconds[BALECREAK_MOST_TERMS], counts[BALECREAK_COUNTS];
-static uint8_t fixings[N], block[BALECREAK_BLOCK], plan[N], answer[N];
+static uint8_t fixings[N], block[BALECREAK_BLOCK], stored[BALECREAK_BLOCK], plan[N], answer[N];
 static size_t terms;
 static uint32_t switches;
 
@@ -25,6 +25,7 @@ static void *run(void *which) {
                          BALECREAK_COUNTS);
         break;
     case CHECK: balecreak_check(block, BALECREAK_BLOCK); break;
+    case COPY: balecreak_copy(block, BALECREAK_BLOCK, stored, BALECREAK_BLOCK); break;
     case GROW_BACK: balecreak_grow_back(block, BALECREAK_BLOCK, answer, counts[BALECREAK_REMAINING], plan, N); break;
     case PROJECT: balecreak_project(block, BALECREAK_BLOCK, plan, N, answer, N); break;
     case NOTHING: break;
@@ -63,16 +64,16 @@ static void draw(int kind) {
 }
 
 int main(void) {
-    static const char *names[] = {"reduce", "check", "grow_back", "project"};
-    size_t most[4] = {0}, empty = used_by(NOTHING);
+    static const char *names[] = {"reduce", "check", "copy", "grow_back", "project"};
+    size_t most[NOTHING] = {0}, empty = used_by(NOTHING);
     for (int k = 0; k < 120; k++) {
         draw(k % 3);
         switches = k % 2 ? BALECREAK_ALL : (uint32_t)k / 2 % 16;
-        for (enum call which = REDUCE; which <= PROJECT; which++) {
+        for (enum call which = REDUCE; which < NOTHING; which++) {
             size_t used = used_by(which) - empty;
             if (used > most[which]) most[which] = used;
         }
     }
-    for (int k = 0; k < 4; k++) printf("balecreak_%s: %zu bytes of stack\n", names[k], most[k]);
+    for (int k = 0; k < NOTHING; k++) printf("balecreak_%s: %zu bytes of stack\n", names[k], most[k]);
     return 0;
 }

@@ -30,6 +30,12 @@ mod library {
             counts_len: usize,
         ) -> u32;
         pub fn balecreak_check(block: *const u8, block_len: usize) -> u32;
+        pub fn balecreak_copy(
+            block: *const u8,
+            block_len: usize,
+            out: *mut u8,
+            out_len: usize,
+        ) -> u32;
         pub fn balecreak_grow_back(
             block: *const u8,
             block_len: usize,
@@ -98,6 +104,15 @@ pub fn reduce(
 pub fn check(block: &[u8]) -> Result<(), Refusal> {
     // SAFETY: one live slice.
     Refusal::from_number(unsafe { library::balecreak_check(block.as_ptr(), block.len()) })
+}
+
+/// Writes the record that a block holds anew into an output of 512 bytes, which then holds the
+/// block's bytes: refuses with 9, 10, 11, 12; 9 where either is not 512 long.
+pub fn copy(block: &[u8], out: &mut [u8]) -> Result<(), Refusal> {
+    // SAFETY: two live slices, the lent one apart from the other.
+    Refusal::from_number(unsafe {
+        library::balecreak_copy(block.as_ptr(), block.len(), out.as_mut_ptr(), out.len())
+    })
 }
 
 /// Grows an answer back into a plan n long: refuses with 9, 10, 11, 12, 7, 8.

@@ -5,7 +5,7 @@
 //! input. This crate is a thin, safe cover: no call panics, and a call that says no leaves
 //! everything it was lent as it was.
 //!
-//! A hall of four seats blocks. Selling block `i` saves its weight; two blocks sold together cost
+//! A hall of four seat blocks. Selling block `i` saves its weight; two blocks sold together cost
 //! their pair's weight. The box office has already sold block 3.
 //!
 //! ```
@@ -19,7 +19,9 @@
 //!     .reduce()?;
 //!
 //! // Keep these 512 bytes: they are all that growing back needs.
-//! let stored: [u8; 512] = *reduction.record().as_bytes();
+//! let mut stored = [0; 512];
+//! reduction.record().write_to(&mut stored)?;
+//! assert_eq!(&stored, reduction.record().as_bytes());
 //!
 //! // Solve what is left (here nothing is: every decision was eliminated) ...
 //! let answer = vec![0; reduction.linear().len()];

@@ -45,6 +45,12 @@ impl Record {
         &self.0
     }
 
+    /// Writes the record anew into 512 lent bytes, say those of a buffer that holds many: the same
+    /// bytes as [`as_bytes`](Record::as_bytes). Refuses with [`Refusal::BlockLength`].
+    pub fn write_to(&self, out: &mut [u8]) -> Result<(), Refusal> {
+        calls::copy(&self.0, out)
+    }
+
     /// How many decisions a full plan has.
     pub fn decisions(&self) -> usize {
         usize::from(self.0[1]).min(MOST_DECISIONS)

@@ -2,7 +2,7 @@
 //! every plan. BALECREAK_TRIES makes the runs longer or shorter (2,000 without it).
 mod common;
 use balecreak::{calls, Objective as Built, Record};
-use common::{every_plan, number, same, Lent};
+use common::{copies, every_plan, number, same, Lent};
 use model::back::{grow_back_block, project_block};
 use model::generator::{any_size, crowded, objective};
 use model::objective::{refusal, Objective};
@@ -88,6 +88,7 @@ fn wrong_lengths_and_values() {
         assert!(answer == 0 || lent == before);
         met[answer as usize] += 1;
     }
+    // The draws are always the same: 60 of them, for a run under valgrind, do not meet 6 yet.
     let all = [0, 1, 2, 3, 4, 5, 6, 9].iter().all(|&answer: &usize| met[answer] > 0);
     assert!(all || tries() < 1_000, "{met:?}");
 }
@@ -131,6 +132,7 @@ fn damaged_blocks() {
         let expected = read(&block);
         assert_eq!(number(calls::check(&block)), expected.clone().err().unwrap_or(0));
         assert_eq!(Record::from_bytes(&block).is_ok(), expected.is_ok());
+        copies(&block);
         let n = block.get(1).map_or(0, |&n| usize::from(n).min(64));
         for _ in 0..4 {
             let any = random.below(66);

@@ -2,7 +2,7 @@
 //! `passed.txt` is about a record passed in, which no vendor's call takes.)
 mod common;
 use balecreak::calls;
-use common::{every_plan, list, number, path, Lent};
+use common::{copies, every_plan, list, number, path, Lent};
 use model::objective::Objective;
 use model::record::seal;
 use model::text::{read_within, with_semicolons, written};
@@ -134,8 +134,22 @@ fn records() {
         let block = damaged(&bases, &numbers(parts[0]), parts[1]);
         assert_eq!(number(calls::check(&block)).to_string(), parts[2], "{line}");
         assert_eq!(balecreak::Record::from_bytes(&block).is_ok(), parts[2] == "0");
+        copies(&block);
     }
     assert_eq!(lines.len(), 12048);
+}
+
+/// Every stored record is written anew as it stands.
+#[test]
+fn bases_written_anew() {
+    for base in bases() {
+        let record = balecreak::Record::from_bytes(&base).expect("a stored record is right");
+        let mut out = vec![7; 512];
+        record.write_to(&mut out).unwrap();
+        assert_eq!(out, base);
+        assert_eq!(record.write_to(&mut out[..511]), Err(balecreak::Refusal::BlockLength));
+        assert_eq!(out, base);
+    }
 }
 
 #[test]

@@ -1,53 +1,15 @@
-//! The call on lent lists, and its outputs in the model's form.
+//! A call's outputs in the model's form, and what every test asks of a call.
 #![allow(dead_code)]
+mod lent;
 use balecreak::{calls, Record, Refusal, State};
+pub use lent::Lent;
 use model::graph::Graph;
 use model::local::Step;
 use model::objective::Objective;
 use model::run::{Counts, Reduction};
 use std::path::PathBuf;
 
-/// What is lent to a reduce.
-#[derive(Clone, Debug, PartialEq)]
-pub struct Lent {
-    pub linear: Vec<i64>,
-    pub edges: Vec<i64>,
-    pub block: Vec<u8>,
-    pub counts: Vec<u32>,
-}
-
 impl Lent {
-    /// Of the right lengths, and full of numbers that no answer has everywhere.
-    pub fn fresh() -> Lent {
-        Lent::sized(64, 4096, 512, 14)
-    }
-
-    pub fn sized(linear: usize, edges: usize, block: usize, counts: usize) -> Lent {
-        Lent {
-            linear: vec![77; linear],
-            edges: vec![-77; edges],
-            block: vec![7; block],
-            counts: vec![777; counts],
-        }
-    }
-
-    pub fn reduce(&mut self, o: &Objective) -> Result<(), Refusal> {
-        calls::reduce(
-            o.n,
-            &o.weights,
-            &o.firsts,
-            &o.seconds,
-            &o.term_weights,
-            &o.fixings,
-            o.switches,
-            o.budget,
-            &mut self.linear,
-            &mut self.edges,
-            &mut self.block,
-            &mut self.counts,
-        )
-    }
-
     /// The outputs of a call that was not refused.
     pub fn as_model(&self) -> Reduction {
         let record = Record::from_bytes(&self.block).expect("a written block is right");
@@ -104,6 +66,21 @@ pub fn same(ours: &Reduction, theirs: &Reduction) {
 
 pub fn number(result: Result<(), Refusal>) -> u32 {
     result.map_or_else(Refusal::number, |()| 0)
+}
+
+/// A copy says what a check says. It is the block again where that is 0; where it is not, or the
+/// output is not 512 long, the output is as it was.
+pub fn copies(block: &[u8]) {
+    let said = number(calls::check(block));
+    let before = vec![7; 512];
+    let mut out = before.clone();
+    assert_eq!(number(calls::copy(block, &mut out)), said);
+    assert_eq!(out, if said == 0 { block } else { &before });
+    for long in [0, 1, 511, 513, 1024] {
+        let mut out = vec![7; long];
+        assert_eq!(number(calls::copy(block, &mut out)), 9);
+        assert_eq!(out, vec![7; long]);
+    }
 }
 
 /// From the root of the repository.
