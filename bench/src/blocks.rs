@@ -1,58 +1,71 @@
 //! Reading, writing, growing back and projecting, in blocks a second.
+use crate::lent::Lent;
+use crate::line;
 use crate::sets::{sets, WITH_BLOCK};
-use crate::times::{best, Lent};
-use balecreak::calls;
+use crate::times::best;
+use balecreak::{calls, Refusal};
 use model::objective::Objective;
-use std::fmt::Write;
 use std::hint::black_box;
 
 /// A batch, so that one reading of the clock is small beside it.
-const BATCH: usize = 64;
+const BATCH: usize = 16;
 
 pub fn told(budget: u64) -> String {
-    let mut text = String::from("blocks a second, of a record with n 64\n");
-    for (name, switches) in [("few steps", 0), ("many steps", WITH_BLOCK)] {
-        let set = sets().into_iter().find(|s| s.n == 64 && s.name == "sparse 96").unwrap();
-        let o = Objective { switches, ..set.objectives[0].clone() };
-        let mut lent = Lent::new();
-        lent.reduce(&o);
-        let (block, steps) = (lent.block, lent.block[2]);
-        let answer = vec![1; lent.counts[6] as usize];
-        let (mut plan, mut out) = ([0; 64], [0; 64]);
-        calls::grow_back(&block, &answer, &mut plan).unwrap();
-        let full = plan;
-        let least = best(
-            10 * budget,
-            [
-                &mut || (0..BATCH).for_each(|_| calls::check(black_box(&block)).unwrap()),
-                &mut || {
-                    (0..BATCH).for_each(|_| {
-                        calls::grow_back(black_box(&block), &answer, &mut plan).unwrap()
-                    })
-                },
-                &mut || {
-                    (0..BATCH)
-                        .for_each(|_| calls::project(black_box(&block), &full, &mut out).unwrap())
-                },
-            ],
-        );
-        let [check, grow, project] = least.map(|micros| BATCH as f64 / micros * 1e6);
-        writeln!(
-            text,
-            "{name} ({steps}): check {check:.0}, grow back {grow:.0}, project {project:.0}"
-        )
-        .unwrap();
-    }
-    // A reduction of nothing: its time is the tests of the lists, the outputs and the block.
-    let empty = Objective::default();
-    let mut lent = Lent::new();
-    let [write] =
-        best(10 * budget, [&mut || (0..BATCH).for_each(|_| lent.reduce(black_box(&empty)))]);
-    writeln!(
-        text,
-        "reduce of no decisions, its block and both outputs written: {:.0}",
-        BATCH as f64 / write * 1e6
+    let sparse = sets().into_iter().find(|s| s.n == 64 && s.name == "sparse 96").unwrap();
+    let rows = [0, WITH_BLOCK].map(|switches| {
+        row(&Objective { switches, ..sparse.objectives[0].clone() }, 10 * budget) + "\n"
+    });
+    let head = ["record", "read", "read+write", "write", "grow back", "project"];
+    format!(
+        "blocks a second, of a record with n 64; read is a check, read+write a copy, write the difference\n\
+         of their times; growing back and projecting read the block too\n\n{}\n{}\n\
+         reduce of no decisions, both outputs and the block written: {:.2} microseconds a call\n",
+        line(&head.map(String::from)),
+        rows.concat(),
+        nothing(10 * budget)
     )
-    .unwrap();
-    text
+}
+
+fn row(o: &Objective, budget: u64) -> String {
+    let mut lent = Lent::fresh();
+    lent.reduce(o).unwrap();
+    let block = lent.block;
+    let answer = vec![1; lent.counts[6] as usize];
+    let mut full = [0; 64];
+    calls::grow_back(&block, &answer, &mut full).unwrap();
+    let (mut copied, mut plan, mut out) = ([0; 512], [0; 64], [0; 64]);
+    let [check, copy, grow, project] = best(
+        budget,
+        [
+            &mut batch(|| calls::check(black_box(&block))),
+            &mut batch(|| calls::copy(black_box(&block), &mut copied)),
+            &mut batch(|| calls::grow_back(black_box(&block), &answer, &mut plan)),
+            &mut batch(|| calls::project(black_box(&block), &full, &mut out)),
+        ],
+    );
+    let cells = [check, copy, copy - check, grow, project].map(a_second);
+    let [check, copy, write, grow, project] = cells;
+    line(&[format!("{} steps", block[2]), check, copy, write, grow, project])
+}
+
+/// From a batch's microseconds; a difference can be lost in what the machine does besides.
+fn a_second(micros: f64) -> String {
+    if micros > 0.0 {
+        format!("{:.0}", BATCH as f64 / micros * 1e6)
+    } else {
+        String::from("-")
+    }
+}
+
+/// A reduction of nothing, in microseconds: the tests of the lists, the outputs and the block are
+/// all there is, so every call takes at least that.
+fn nothing(budget: u64) -> f64 {
+    let mut lent = Lent::fresh();
+    let empty = Objective::default();
+    let [write] = best(budget, [&mut batch(|| lent.reduce(black_box(&empty)))]);
+    write / BATCH as f64
+}
+
+fn batch(mut call: impl FnMut() -> Result<(), Refusal>) -> impl FnMut() {
+    move || (0..BATCH).for_each(|_| call().expect("no call of the bench is refused"))
 }

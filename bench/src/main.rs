@@ -1,6 +1,8 @@
 //! bench MILLISECONDS TABLE PLOT: times our reduce and the given Rust's on the same objectives, and
 //! reading, writing and growing back; prints the table and writes it, with a plot beside it.
 mod blocks;
+#[path = "../../bindings/rust/tests/common/lent.rs"]
+mod lent;
 mod plot;
 mod sets;
 mod times;
@@ -101,7 +103,8 @@ fn told(milliseconds: &str, rows: &[Row]) -> String {
     text
 }
 
-fn line(cells: &[String; 10]) -> String {
-    let [set, rest @ ..] = cells;
-    rest.iter().fold(format!("{set:<13}"), |text, cell| text + &format!(" {cell:>10}"))
+/// A line of a table: what it is about, and the figures.
+fn line<const K: usize>(cells: &[String; K]) -> String {
+    let about = format!("{:<13}", cells[0]);
+    cells[1..].iter().fold(about, |text, cell| text + &format!(" {cell:>10}"))
 }

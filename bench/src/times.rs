@@ -1,6 +1,6 @@
 //! The same objectives, timed three ways in turn.
+use crate::lent::Lent;
 use crate::sets::Set;
-use balecreak::calls;
 use model::objective::Objective;
 use model::text::{objective_text, with_semicolons};
 use std::hint::black_box;
@@ -15,38 +15,6 @@ pub struct Times {
     pub remaining: f64,
 }
 
-/// What is lent to our call, over and over.
-pub struct Lent {
-    pub linear: [i64; 64],
-    pub edges: Vec<i64>,
-    pub block: [u8; 512],
-    pub counts: [u32; 14],
-}
-
-impl Lent {
-    pub fn new() -> Lent {
-        Lent { linear: [0; 64], edges: vec![0; 4096], block: [0; 512], counts: [0; 14] }
-    }
-
-    pub fn reduce(&mut self, o: &Objective) {
-        calls::reduce(
-            o.n,
-            &o.weights,
-            &o.firsts,
-            &o.seconds,
-            &o.term_weights,
-            &o.fixings,
-            o.switches,
-            o.budget,
-            &mut self.linear,
-            &mut self.edges,
-            &mut self.block,
-            &mut self.counts,
-        )
-        .expect("no objective of the sets is refused");
-    }
-}
-
 pub fn times(set: &Set, switches: u32, budget: u64) -> Times {
     let mut sum = Times { ours: 0.0, rust: 0.0, still: 0.0, units: 0.0, remaining: 0.0 };
     let share = 1.0 / set.objectives.len() as f64;
@@ -54,11 +22,11 @@ pub fn times(set: &Set, switches: u32, budget: u64) -> Times {
         let o = Objective { switches, ..drawn.clone() };
         let line = with_semicolons(&objective_text(&o));
         let (asked, still) = (oracle::ask::read(&line), without_clock::ask::read(&line));
-        let mut lent = Lent::new();
+        let mut lent = Lent::fresh();
         let least = best(
             budget,
             [
-                &mut || lent.reduce(&o),
+                &mut || lent.reduce(&o).expect("no objective of the sets is refused"),
                 &mut || {
                     black_box(oracle::ask::takes_steps(&asked));
                 },
