@@ -1,11 +1,15 @@
 //! The paper's examples A to J, held against the model.
 use model::record::{write, Record};
-use model::run::reduce;
+use model::run::{reduce, Counts};
 use model::text::{program, read};
 
 fn says(input: &str, expected: &str) {
     let input = input.replace(';', "\n");
     assert_eq!(program(input.as_bytes()).replace('\n', ";"), expected);
+}
+
+fn counts(input: &str) -> Counts {
+    reduce(&read(input.replace(';', "\n").as_bytes()).unwrap()).unwrap().counts
 }
 
 #[test]
@@ -59,24 +63,23 @@ fn g_a_cubic_entry() {
         input,
         "constant 0;remaining 0 1 2 3;linear -1 0 0 0;edge 0 1 1;edge 0 2 1;edge 0 3 1;units 1 complete no;",
     );
-    let reduction = reduce(&read(input.replace(';', "\n").as_bytes()).unwrap()).unwrap();
-    assert_eq!(reduction.counts.degree_three_skipped, 1);
+    assert_eq!(counts(input).degree_three_skipped, 1);
 }
 
 #[test]
 fn h_dominant_not_weak() {
     let input = "2 4 100 1;-3 -4;2 2;0 1 5;";
     says(input, "constant -3;remaining 1;linear -1;step 0 : 1 : 1 0;units 2 complete yes;");
-    let reduction = reduce(&read(input.replace(';', "\n").as_bytes()).unwrap()).unwrap();
-    assert_eq!((reduction.counts.contracted, reduction.counts.weak_contractions), (1, 0));
+    let counts = counts(input);
+    assert_eq!((counts.contracted, counts.weak_contractions), (1, 0));
 }
 
 #[test]
 fn i_dominant_and_weak() {
     let input = "2 4 100 1;0 7;2 2;0 1 -4;";
     says(input, "constant 0;remaining 1;linear 3;step 0 : 1 : 0 1;units 2 complete yes;");
-    let reduction = reduce(&read(input.replace(';', "\n").as_bytes()).unwrap()).unwrap();
-    assert_eq!((reduction.counts.contracted, reduction.counts.weak_contractions), (1, 1));
+    let counts = counts(input);
+    assert_eq!((counts.contracted, counts.weak_contractions), (1, 1));
 }
 
 #[test]
@@ -86,8 +89,7 @@ fn j_a_small_block() {
         input,
         "constant -3;remaining 0 1;linear 0 2;edge 0 1 1;step 2 : 1 : 1 0;step 3 : 1 : 1 1;units 1 complete yes;",
     );
-    let reduction = reduce(&read(input.replace(';', "\n").as_bytes()).unwrap()).unwrap();
-    assert_eq!(reduction.counts.passes, 2);
+    assert_eq!(counts(input).passes, 2);
 }
 
 /// The state-3 decisions, the steps and the check of D, written out by hand.
