@@ -5,35 +5,38 @@
 //! input. This crate is a thin, safe cover: no call panics, and a call that says no leaves
 //! everything it was lent as it was.
 //!
-//! A hall of four seat blocks. Selling block `i` saves its weight; two blocks sold together cost
-//! their pair's weight. The box office has already sold block 3.
+//! A hall of four seat blocks. Opening block `i` costs its weight (takings are negative); two that
+//! are both open cost their pair's weight besides. The box office has already sold block 3.
 //!
 //! ```
 //! use balecreak::{Objective, Record};
 //!
-//! let reduction = Objective::new([-3, -4, -2, -6])
-//!     .pair(0, 1, 5)
-//!     .pair(1, 2, 3)
-//!     .pair(2, 3, 4)
-//!     .fix(3, true)
-//!     .reduce()?;
+//! let hall = Objective::new([-3, -4, -2, -6]).pair(0, 1, 5).pair(1, 2, 3).pair(2, 3, 4).fix(3, true);
+//!
+//! // An ample budget leaves nothing to solve: the constant is the least cost.
+//! assert_eq!(hall.reduce()?.constant(), -10);
+//!
+//! // One unit leaves blocks 1 and 2.
+//! let reduction = hall.budget(1).reduce()?;
+//! assert_eq!(reduction.constant(), -9);
+//! assert_eq!(reduction.linear(), [-1, 2]);
+//! assert_eq!(reduction.edge(0, 1), 3);
 //!
 //! // Keep these 512 bytes: they are all that growing back needs.
 //! let mut stored = [0; 512];
 //! reduction.record().write_to(&mut stored)?;
 //! assert_eq!(&stored, reduction.record().as_bytes());
 //!
-//! // Solve what is left (here nothing is: every decision was eliminated) ...
-//! let answer = vec![0; reduction.linear().len()];
+//! // Solve what is left: opening block 1 alone is cheapest ...
+//! let answer = [1, 0];
+//! assert_eq!(reduction.cost(&answer), -10);
 //!
 //! // ... and grow the answer back, today or years from now.
 //! let record = Record::from_bytes(&stored)?;
-//! let plan = record.grow_back(&answer)?;
-//! assert_eq!(plan, [0, 1, 0, 1]);
-//! assert_eq!(record.constant(), -10);
+//! assert_eq!(record.grow_back(&answer)?, [0, 1, 0, 1]);
 //!
-//! // A full plan's entries for the decisions that are left.
-//! assert_eq!(record.project(&plan)?, answer);
+//! // A full plan's entries for the decisions that are left: last night's plan, to start a solver from.
+//! assert_eq!(record.project(&[1, 1, 0, 1])?, [1, 0]);
 //! # Ok::<(), balecreak::Refusal>(())
 //! ```
 #![warn(missing_docs)]

@@ -33,7 +33,7 @@ module _ (b out : List ℕ) where
     unfolding copyRefusal firstRow
     copy-read exit z e = rw (eq-eqb (length out) 512 long) (of-read (λ r. []) blockOf out b read is z (accepted 0 (blockOf (read .«record»)) out exit refl e))
 
--- ---- a copy that is not refused is the block itself
+-- ---- a copy that is not refused is the block itself; a lent slice of bytes is `Bytes`
 copied-read : (t : Bool) (k : ℕ) → cond t 9 k ≡ 0 → k ≡ 0
 copied-read true k e = absurd (omega arith)
 copied-read false k e = e
