@@ -108,12 +108,13 @@ int main(void) {
     for (int k = 0; k < BALECREAK_BLOCK; k++) {
         block[k] ^= 1;
         expect(balecreak_check(block, sizeof block) == BALECREAK_BLOCK_CHECK, "a changed byte");
-        expect(balecreak_copy(block, sizeof block, stored, sizeof stored) == BALECREAK_BLOCK_CHECK, "a changed byte copied");
+        expect(balecreak_copy(block, sizeof block, stored, sizeof stored) == BALECREAK_BLOCK_CHECK,
+               "a changed byte is not copied");
         block[k] ^= 1;
     }
     expect(balecreak_copy(block, sizeof block, stored, 511) == BALECREAK_BLOCK_LENGTH, "an output of 511 bytes");
-    expect(balecreak_copy(block, 511, stored, sizeof stored) == BALECREAK_BLOCK_LENGTH, "511 bytes copied");
-    expect(balecreak_copy(NULL, 0, NULL, 0) == BALECREAK_BLOCK_LENGTH, "nothing copied");
+    expect(balecreak_copy(block, 511, stored, sizeof stored) == BALECREAK_BLOCK_LENGTH, "511 bytes are not copied");
+    expect(balecreak_copy(NULL, 0, NULL, 0) == BALECREAK_BLOCK_LENGTH, "no bytes are not copied");
     expect(memcmp(stored, kept, sizeof kept) == 0, "the output is as it was");
     printf("%s\n", failures ? "FAILED" : "all as expected");
     return failures != 0;
