@@ -1,2 +1,3 @@
 pub mod Accept
 pub mod Mass
+pub mod Small

@@ -11,14 +11,14 @@ use Rattle.rules.specs.Eliminate.{Step, step}
 use Rattle.rules.specs.Size.{Within}
 use Rattle.rules.specs.SmallBlock.{cheapest}
 use Rattle.meaning.specs.Found.{SmallBlock}
-use Rattle.graph.specs.Small.{Small}
+use Rattle.accepted.specs.Small.{Small}
 use Rattle.block_elimination.specs.declared.Outside.{Outside}
 
 -- for each of `size` fillings f, of the interior costs (c f): the winning mask and its cost; then zeros
 pub record Lowest (c : ℕ → ℕ → ℤ) (count size : ℕ) (masks : List ℕ) (table : List ℤ) : Type 0 where
   pub winners : masks ≡ tab (λ f. cheapest (c f) (2 ^ count - 1)) size ++ drop size (replicate 4 0)
   pub costs : table ≡ tab (λ f. c f (cheapest (c f) (2 ^ count - 1))) size ++ drop size (replicate 8 (pos 0))
-  pub bounded : Small 290271069732864 table
+  pub bounded : Small 184717953466368 table
 
 -- the boundary: of two decisions the first `width`
 abbrev pub pairOf : ℕ → ℕ → ℕ → List ℕ

@@ -17,7 +17,8 @@ use Rattle.rules.specs.Eliminate as rule
 use Rattle.rules.specs.Record.{hold}
 use Rattle.rules.specs.Size.{Within}
 use Rattle.rules.specs.SmallBlock.{boundary, inner, cheapest, bestMask, blockTable, dropAll, blockSteps}
-use Rattle.graph.specs.Small.{small-set, dropped-constant, dropped-linear, dropped-edges}
+use Rattle.accepted.specs.Small.{small-set}
+use Rattle.graph.specs.Small.{dropped-constant, dropped-linear, dropped-edges}
 use Rattle.block_minima.specs.Weights.{weights, weights-inner, Minimum}
 use Rattle.block_elimination.specs.Block.{Lowest, pairOf, memberStep}
 
@@ -180,7 +181,7 @@ module _ (c : ℕ → ℕ → ℤ) (count : ℕ) where
   unfolding tab
   lowest-none = record { winners = refl; costs = refl; bounded = record { each = zeros 8 } }
     where
-      zeros : (n m : ℕ) → ∣ getD (replicate n (pos 0)) m (pos 0) ∣ ≤ 290271069732864
+      zeros : (n m : ℕ) → ∣ getD (replicate n (pos 0)) m (pos 0) ∣ ≤ 184717953466368
       zeros zero m = omega arith
       zeros (suc n) zero = omega arith
       zeros (suc n) (suc m) = zeros n m
@@ -190,5 +191,5 @@ module _ (c : ℕ → ℕ → ℤ) (count : ℕ) where
   lowest-more f masks table mask cost v l w m e = record {
     winners = fill-step (λ f. cheapest (c f) (2 ^ count - 1)) (replicate 4 0) masks f mask l (w .winners) (m .lowest);
     costs = fill-step (λ f. c f (cheapest (c f) (2 ^ count - 1))) (replicate 8 (pos 0)) table f v (omega arith) (w .costs) (e ∙ m .costs ∙ ap (c f) (m .lowest));
-    bounded = small-set f v (w .bounded) (subst (λ (z : ℤ). ∣ z ∣ ≤ 290271069732864) (sym e) (m .bounded));
+    bounded = small-set f v (w .bounded) (subst (λ (z : ℤ). ∣ z ∣ ≤ 184717953466368) (sym e) (m .bounded));
   }

@@ -21,7 +21,7 @@ use Rattle.rules.specs.SmallBlock.{findBlock, boundary, inner, bestMask, blockT
 use Rattle.meaning.specs.CostLaws.{Shaped}
 use Rattle.meaning.specs.BlockCost.{boundary-apart}
 use Rattle.meaning.specs.Found.{found-block}
-use Rattle.graph.specs.Small.{Small, small-more}
+use Rattle.accepted.specs.Small.{Small, small-more}
 use Rattle.small_block.specs.Held.{blockBy}
 use Rattle.small_block.specs.Seeking.{a-block}
 use Rattle.small_block.specs.Tables.{Boundary, shape-boundary}

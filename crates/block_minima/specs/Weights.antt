@@ -27,8 +27,8 @@ pub record Listed (list : List ℕ) (count : ℕ) : Type 0 where
   pub few : count ≤ 8
   pub low : (k : ℕ) → k < count → getD list k 0 < 64
 
--- the lowest of the cheapest masks of `count` bits, and its cost: of 8 members at most, each with its weight and at most 16 edges
+-- the lowest of the cheapest masks of `count` bits, and its cost
 pub record Minimum (c : ℕ → ℤ) (count mask : ℕ) (cost : ℤ) : Type 0 where
   pub lowest : mask ≡ cheapest c (2 ^ count - 1)
   pub costs : cost ≡ c mask
-  pub bounded : ∣ cost ∣ ≤ 290271069732864
+  pub bounded : ∣ cost ∣ ≤ 184717953466368

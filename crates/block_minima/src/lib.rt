@@ -48,8 +48,8 @@ fn inner_cost(
     filling: usize,
     mask: usize,
 ) -> i64
-    requires { ⌜ (Within (weights (now linear) (now edges))) × (Listed (now list) count) × (Listed (now out) width) ⌝ }
-    ensures { λ r. ⌜ (r ≡ inner (weights (now (linear .entry)) (now (edges .entry))) (take width (now (out .entry))) filling (take count (now (list .entry))) mask) × (∣ r ∣ ≤ 290271069732864) ⌝ }
+    requires { ⌜ (Within (weights (now linear) (now edges))) × (Listed (now list) count) × (Listed (now out) width) × (width ≤ 2) ⌝ }
+    ensures { λ r. ⌜ r ≡ inner (weights (now (linear .entry)) (now (edges .entry))) (take width (now (out .entry))) filling (take count (now (list .entry))) mask ⌝ }
 {
     let mut s: i64 = 0;
     let mut p: usize = 0;
@@ -84,7 +84,7 @@ pub fn cheapest_mask(
     width: usize,
     filling: usize,
 ) -> Best
-    requires { ⌜ (Within (weights (now linear) (now edges))) × (Listed (now list) count) × (Listed (now out) width) ⌝ }
+    requires { ⌜ (Within (weights (now linear) (now edges))) × (Listed (now list) count) × (Listed (now out) width) × (width ≤ 2) ⌝ }
     ensures { λ r. ⌜ Minimum (inner (weights (now (linear .entry)) (now (edges .entry))) (take width (now (out .entry))) filling (take count (now (list .entry)))) count (r .mask) (r .cost) ⌝ }
 {
     let size: usize = 1 << count;

@@ -16,7 +16,7 @@ use Rattle.rules.specs.DegreeThree.{pass, moebius, pairs, addPairs, absorb3, el
 use Rattle.graph.specs.Held.{held, withConstant, DoesEdges}
 use Rattle.graph.specs.Near.{nearOf}
 use Rattle.graph.specs.NearLaws.{near-list}
-use Rattle.graph.specs.Small.{Small, small-tab}
+use Rattle.accepted.specs.Small.{Small, small-tab}
 use Rattle.graph.specs.declared.Frame.{Frame}
 use Rattle.graph.specs.declared.Near.{Near}
 

@@ -10,7 +10,7 @@ use mir.Val.{SFits, toZ, ofZ}
 use Rattle.whole.specs.Ints.{ints, rd}
 use Rattle.whole.specs.Words.{tab}
 use Rattle.rules.specs.DegreeThree.{moebius}
-use Rattle.graph.specs.Small.{Small}
+use Rattle.accepted.specs.Small.{Small}
 
 -- a difference that fits, kept and read back
 pub read-sub : {x y a b : ℤ} → x ≡ a → y ≡ b → SFits w64 (a -ℤ b) → toZ w64 (ofZ w64 (x -ℤ y)) ≡ a -ℤ b

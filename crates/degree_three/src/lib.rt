@@ -12,7 +12,7 @@ ghost use Rattle.rules.specs.Record.{hold, noStep};
 ghost use Rattle.rules.specs.Size.{Within};
 ghost use Rattle.graph.specs.Held.{held, DoesEdges};
 ghost use Rattle.graph.specs.Near.{nearOf};
-ghost use Rattle.graph.specs.Small.{Small};
+ghost use Rattle.accepted.specs.Small.{Small};
 ghost use Rattle.degree_three.specs.Pairs.{pairAt};
 
 // Two of three neighbours, and the Möbius entry that goes to their edge.

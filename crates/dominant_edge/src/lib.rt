@@ -14,7 +14,7 @@ ghost use Rattle.rules.specs.Record.{hold};
 ghost use Rattle.rules.specs.Size.{Within};
 ghost use Rattle.graph.specs.Held.{held};
 ghost use Rattle.graph.specs.Near.{nearOf};
-ghost use Rattle.graph.specs.Small.{Small};
+ghost use Rattle.accepted.specs.Small.{Small};
 ghost use Rattle.dominant_edge.specs.Answer.{verdictOf, testOf, Bounds-are, Finds, Turns, Moves};
 
 // The least and the largest that a decision's delta can be.

@@ -21,7 +21,7 @@ use Rattle.graph.specs.Near.{nearOf}
 use Rattle.graph.specs.NearLaws.{near-count, near-list}
 use Rattle.graph.specs.declared.Near.{Near}
 use Rattle.graph.specs.Held.{held, withConstant}
-use Rattle.graph.specs.Small.{Small}
+use Rattle.accepted.specs.Small.{Small}
 use Rattle.graph.specs.declared.Frame.{Frame}
 use Rattle.low_degree.specs.Table.{deltasOf}
 

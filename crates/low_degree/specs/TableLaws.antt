@@ -20,7 +20,8 @@ use Rattle.rules.specs.Record.{hold}
 use Rattle.rules.specs.Size.{Within}
 use Rattle.graph.specs.Near.{nearOf}
 use Rattle.graph.specs.NearLaws.{length-map, near-count, near-list, near-weights}
-use Rattle.graph.specs.Small.{Small, small-near, map-at-most}
+use Rattle.accepted.specs.Small.{Small, map-at-most}
+use Rattle.graph.specs.Small.{small-near}
 use Rattle.graph.specs.declared.Near.{Near}
 use Rattle.low_degree.specs.Table.{three, deltasOf, teesOf, choicesOf, stepFrom}
 

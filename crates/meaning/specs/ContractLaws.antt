@@ -5,9 +5,10 @@ use mathlib.Core.Bool.{Bool, true, false, cond, not}
 use mathlib.Core.List.{List, [], _∷_}
 use mathlib.Core.Logic.{_≢_}
 use Prim.Native.Nat.{ℕ, _<_}
+use native.Mathlib.Omega.{arith}
 use lib.Dec.{eqb}
 use borrow.Author.Tests.{eqb-false}
-use lib.IntN.{ℤ, pos, _+ℤ_, negℤ, +ℤ-assoc, +ℤ-comm, +ℤ-idl, +ℤ-idr}
+use lib.IntN.{ℤ, pos, _+ℤ_, negℤ, +ℤ-assoc, +ℤ-comm, +ℤ-idr}
 use lib.Signed.{ltZ}
 use Rattle.whole.specs.Ints.{ints, zarith}
 use Rattle.whole.specs.Words.{mem}
@@ -18,41 +19,37 @@ use Rattle.meaning.specs.Cost.{when, when-zero, sum-zero, deltaOf}
 use Rattle.meaning.specs.CostLaws.{cost, Shaped, base-cost, lin-cost, edge-cost, drop-cost}
 use Rattle.meaning.specs.AbsorbLaws.{shaped-base, shaped-lin, shaped-edge}
 use Rattle.meaning.specs.EliminateLaws.{shaped-drop, over, over-nbrs}
-use Rattle.whole.specs.Members.{in-head, in-tail}
 use Rattle.meaning.specs.Growth.{in-nbrs}
-use Rattle.meaning.specs.ReduceLaws.{ReducedBy}
+use Rattle.meaning.specs.ReduceLaws.{ReducedBy, Adds, walk-cost}
 
 -- v for every decision but j
 abbrev but : ℕ → ℤ → ℕ → ℤ
 but j v k = cond (eqb k j) (pos 0) v
 
-apart : (k j : ℕ) → eqb k j ≡ false → j ≢ k
-apart k j h e = eqb-false k j h (sym e)
+-- a walk that leaves j out
+module _ (n j : ℕ) (x : ℕ → Bool) (walk : List ℕ → Graph → Graph) (update : ℕ → Graph → Graph) (gain : ℕ → ℤ)
+    (none : (g : Graph) → walk [] g ≡ g)
+    (next : (k : ℕ) (ks : List ℕ) (g : Graph) → walk (k ∷ ks) g ≡ walk ks (cond (eqb k j) g (update k g)))
+    (adds : (k : ℕ) (g : Graph) → Shaped g → g .n ≡ n → k < n → j ≢ k → Adds n x (gain k) g (update k g)) where
+  but-cost : (ks : List ℕ) (g : Graph) → Shaped g → g .n ≡ n → ((k : ℕ) → mem k ks ≡ true → k < n) → cost (walk ks g) x ≡ cost g x +ℤ over (λ k. but j (gain k) k) ks
+  but-cost = walk-cost n x walk (λ k g. cond (eqb k j) g (update k g)) (λ k. but j (gain k) k) none next (λ k g s e lk. go k g s e lk (eqb k j) refl)
+    where
+      go : (k : ℕ) (g : Graph) → Shaped g → g .n ≡ n → k < n → (c : Bool) → eqb k j ≡ c → Adds n x (cond c (pos 0) (gain k)) g (cond c g (update k g))
+      go k g s e lk true h = record { shaped = s; as-many = e; paid = sym (+ℤ-idr (cost g x)) }
+      go k g s e lk false h = adds k g s e lk (λ p. eqb-false k j h (sym p))
 
 move-cost : (old : Graph) (i j : ℕ) (x : ℕ → Bool) (ks : List ℕ) (g : Graph) → Shaped g → j < g .n → ((k : ℕ) → mem k ks ≡ true → k < g .n)
     → cost (move old i j ks g) x ≡ cost g x +ℤ over (λ k. but j (when (x j) (when (x k) (edge old i k))) k) ks
-unfolding move over addEdge
-move-cost old i j x [] g s lj below = sym (+ℤ-idr (cost g x))
-move-cost old i j x (k ∷ ks) g s lj below =
-    go (eqb k j) refl (move-cost old i j x ks g s lj later)
-    (λ d. move-cost old i j x ks (addEdge j k (edge old i k) g) (shaped-edge g j k (edge old i k) s lj lk d) lj later)
+unfolding move addEdge
+move-cost old i j x ks g s lj below =
+    but-cost (g .n) j x (move old i j) (λ k. addEdge j k (edge old i k)) (λ k. when (x j) (when (x k) (edge old i k))) (λ h. refl) (λ k ks h. refl) adds ks g s refl below
   where
-    lk : k < g .n
-    lk = below k (in-head k ks)
-
-    later : (j : ℕ) → mem j ks ≡ true → j < g .n
-    later j m = below j (in-tail j k ks m)
-
-    rest : ℤ
-    rest = over (λ k. but j (when (x j) (when (x k) (edge old i k))) k) ks
-
-    go : (c : Bool) → eqb k j ≡ c → cost (move old i j ks g) x ≡ cost g x +ℤ rest
-        → (j ≢ k → cost (move old i j ks (addEdge j k (edge old i k) g)) x ≡ cost (addEdge j k (edge old i k) g) x +ℤ rest)
-        → cost (move old i j ks (cond c g (addEdge j k (edge old i k) g))) x ≡ cost g x +ℤ (cond c (pos 0) (when (x j) (when (x k) (edge old i k))) +ℤ rest)
-    go true h r f = r ∙ ap (λ (z : ℤ). cost g x +ℤ z) (sym (+ℤ-idl rest))
-    go false h r f =
-        f (apart k j h) ∙ ap (λ (z : ℤ). z +ℤ rest) (edge-cost g j k (edge old i k) s lj lk (apart k j h) x)
-        ∙ +ℤ-assoc (cost g x) (when (x j) (when (x k) (edge old i k))) rest
+    adds : (k : ℕ) (h : Graph) → Shaped h → h .n ≡ g .n → k < g .n → j ≢ k → Adds (g .n) x (when (x j) (when (x k) (edge old i k))) h (addEdge j k (edge old i k) h)
+    adds k h t e lk d = record {
+      shaped = shaped-edge h j k (edge old i k) t (omega arith) (omega arith) d;
+      as-many = e;
+      paid = edge-cost h j k (edge old i k) t (omega arith) (omega arith) d x;
+    }
 
 -- all edges of i but the one to j, at x
 offSum : Graph → ℕ → ℕ → (ℕ → Bool) → ℤ
@@ -129,38 +126,24 @@ turned x b w k = when (x k) w +ℤ when b (when (x k) (negℤ w))
 
 turn-cost : (old : Graph) (i j : ℕ) (x : ℕ → Bool) (ks : List ℕ) (g : Graph) → Shaped g → j < g .n → ((k : ℕ) → mem k ks ≡ true → k < g .n)
     → cost (turn old i j ks g) x ≡ cost g x +ℤ over (λ k. but j (turned x (x j) (edge old i k) k) k) ks
-unfolding turn over addEdge addLinear
-turn-cost old i j x [] g s lj below = sym (+ℤ-idr (cost g x))
-turn-cost old i j x (k ∷ ks) g s lj below =
-    go (eqb k j) refl (turn-cost old i j x ks g s lj later)
-    (λ d. turn-cost old i j x ks (addEdge j k (negℤ (edge old i k)) (addLinear k (edge old i k) g))
-    (shaped-edge (addLinear k (edge old i k) g) j k (negℤ (edge old i k)) (shaped-lin k (edge old i k) g s) lj lk d) lj later)
+unfolding turn addEdge addLinear
+turn-cost old i j x ks g s lj below =
+    but-cost (g .n) j x (turn old i j) (λ k h. addEdge j k (negℤ (edge old i k)) (addLinear k (edge old i k) h)) (λ k. turned x (x j) (edge old i k) k) (λ h. refl) (λ k ks h. refl) adds ks g s refl
+    below
   where
-    lk : k < g .n
-    lk = below k (in-head k ks)
-
-    later : (j : ℕ) → mem j ks ≡ true → j < g .n
-    later j m = below j (in-tail j k ks m)
-
-    rest : ℤ
-    rest = over (λ k. but j (turned x (x j) (edge old i k) k) k) ks
-
-    next : Graph
-    next = addEdge j k (negℤ (edge old i k)) (addLinear k (edge old i k) g)
-
-    go : (c : Bool) → eqb k j ≡ c → cost (turn old i j ks g) x ≡ cost g x +ℤ rest
-        → (j ≢ k → cost (turn old i j ks next) x ≡ cost next x +ℤ rest)
-        → cost (turn old i j ks (cond c g next)) x ≡ cost g x +ℤ (cond c (pos 0) (turned x (x j) (edge old i k) k) +ℤ rest)
-    go true h r f = r ∙ ap (λ (z : ℤ). cost g x +ℤ z) (sym (+ℤ-idl rest))
-    go false h r f =
-        f (apart k j h)
-        ∙ ap (λ (z : ℤ). z +ℤ rest)
-        (edge-cost (addLinear k (edge old i k) g) j k (negℤ (edge old i k)) (shaped-lin k (edge old i k) g s) lj lk (apart k j h) x
-        ∙ ap (λ (z : ℤ). z +ℤ when (x j) (when (x k) (negℤ (edge old i k)))) (lin-cost g x k (edge old i k) s lk))
-        ∙ sort (cost g x) (when (x k) (edge old i k)) (when (x j) (when (x k) (negℤ (edge old i k)))) rest
-      where
-        sort : (a b c u : ℤ) → a +ℤ b +ℤ c +ℤ u ≡ a +ℤ (b +ℤ c +ℤ u)
-        sort a b c u = simp ints (omega zarith)
+    adds : (k : ℕ) (h : Graph) → Shaped h → h .n ≡ g .n → k < g .n → j ≢ k
+        → Adds (g .n) x (turned x (x j) (edge old i k) k) h (addEdge j k (negℤ (edge old i k)) (addLinear k (edge old i k) h))
+    adds k h t e lk d =
+        let u : Graph = addLinear k (edge old i k) h in
+        let su : Shaped u = shaped-lin k (edge old i k) h t in
+        record {
+          shaped = shaped-edge u j k (negℤ (edge old i k)) su (omega arith) (omega arith) d;
+          as-many = e;
+          paid =
+              edge-cost u j k (negℤ (edge old i k)) su (omega arith) (omega arith) d x
+              ∙ ap (λ (z : ℤ). z +ℤ when (x j) (when (x k) (negℤ (edge old i k)))) (lin-cost h x k (edge old i k) t (omega arith))
+              ∙ +ℤ-assoc (cost h x) (when (x k) (edge old i k)) (when (x j) (when (x k) (negℤ (edge old i k))));
+        }
 
 turned-sum : (g : Graph) (i j : ℕ) (x : ℕ → Bool) → over (λ k. but j (turned x (x j) (edge g i k) k) k) (neighbours g i) ≡ when (not (x j)) (offSum g i j x)
 unfolding offSum

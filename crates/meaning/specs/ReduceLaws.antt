@@ -5,6 +5,7 @@ use mathlib.Core.Path.{_≡_, refl, sym, ap, ap₂, _∙_, subst}
 use mathlib.Core.Bool.{Bool, true, false, not}
 use mathlib.Core.List.{List, [], _∷_}
 use Prim.Native.Nat.{ℕ, _<_}
+use native.Mathlib.Omega.{arith}
 use lib.Dec.{T, ltb→lt}
 use native.Mathlib.Nat.{not-suc-le-zero}
 use lib.IntN.{ℤ, pos, negsuc, _+ℤ_, +ℤ-assoc, +ℤ-idr}
@@ -13,7 +14,7 @@ use Rattle.whole.specs.Ints.{ints, zarith}
 use Rattle.whole.specs.Words.{mem}
 use Rattle.rules.specs.Graph.{Graph, lin, edge, neighbours, addConstant, addLinear, dropTo}
 use Rattle.rules.specs.Fixing.{spread, fix}
-use Rattle.rules.specs.Eliminate.{delta, chooses, tee, eliminate}
+use Rattle.rules.specs.Eliminate.{chooses, tee, eliminate}
 use Rattle.whole.specs.Sum.{Σ<}
 use Rattle.meaning.specs.Cost.{shift-≤, regroup, when, when-zero, deltaOf}
 use Rattle.meaning.specs.CostLaws.{cost, Shaped, base-cost, lin-cost, drop-cost}
@@ -77,15 +78,33 @@ absorbed-never-more g g′ i s li h x =
     (subst (λ (z : ℤ). when (ltZ z (pos 0)) (deltaOf (g .n) (lin g) (edge g) x i) ≤ℤ when (x i) (deltaOf (g .n) (lin g) (edge g) x i)) (sym (delta-at g x i))
     (best (deltaOf (g .n) (lin g) (edge g) x i) (x i)))
 
+-- ---- a walk over decisions that updates the graph at each: what each update adds to the cost, they add together
+pub record Adds (n : ℕ) (x : ℕ → Bool) (v : ℤ) (g g′ : Graph) : Type 0 where
+  pub shaped : Shaped g′
+  pub as-many : g′ .n ≡ n
+  pub paid : cost g′ x ≡ cost g x +ℤ v
+
+module _ (n : ℕ) (x : ℕ → Bool) (walk : List ℕ → Graph → Graph) (update : ℕ → Graph → Graph) (gain : ℕ → ℤ)
+    (none : (g : Graph) → walk [] g ≡ g)
+    (next : (k : ℕ) (ks : List ℕ) (g : Graph) → walk (k ∷ ks) g ≡ walk ks (update k g))
+    (adds : (k : ℕ) (g : Graph) → Shaped g → g .n ≡ n → k < n → Adds n x (gain k) g (update k g)) where
+  pub walk-cost : (ks : List ℕ) (g : Graph) → Shaped g → g .n ≡ n → ((k : ℕ) → mem k ks ≡ true → k < n) → cost (walk ks g) x ≡ cost g x +ℤ over gain ks
+  unfolding over
+  walk-cost [] g s e below = ap (λ (h : Graph). cost h x) (none g) ∙ sym (+ℤ-idr (cost g x))
+  walk-cost (k ∷ ks) g s e below =
+      let a : Adds n x (gain k) g (update k g) = adds k g s e (below k (in-head k ks)) in
+      ap (λ (h : Graph). cost h x) (next k ks g)
+      ∙ walk-cost ks (update k g) (a .shaped) (a .as-many) (λ j m. below j (in-tail j k ks m))
+      ∙ ap (λ (z : ℤ). z +ℤ over gain ks) (a .paid)
+      ∙ +ℤ-assoc (cost g x) (gain k) (over gain ks)
+
 -- ---- fixing is a reduction whose choice is the value
 spread-cost : (old : Graph) (i : ℕ) (x : ℕ → Bool) (ks : List ℕ) (g : Graph) → Shaped g → ((k : ℕ) → mem k ks ≡ true → k < g .n)
     → cost (spread old i ks g) x ≡ cost g x +ℤ over (λ k. when (x k) (edge old i k)) ks
-unfolding spread over addLinear
-spread-cost old i x [] g s below = sym (+ℤ-idr (cost g x))
-spread-cost old i x (k ∷ ks) g s below =
-    spread-cost old i x ks (addLinear k (edge old i k) g) (shaped-lin k (edge old i k) g s) (λ j m. below j (in-tail j k ks m))
-    ∙ ap (λ (z : ℤ). z +ℤ over (λ k. when (x k) (edge old i k)) ks) (lin-cost g x k (edge old i k) s (below k (in-head k ks)))
-    ∙ +ℤ-assoc (cost g x) (when (x k) (edge old i k)) (over (λ k. when (x k) (edge old i k)) ks)
+unfolding spread addLinear
+spread-cost old i x ks g s below =
+    walk-cost (g .n) x (spread old i) (λ k. addLinear k (edge old i k)) (λ k. when (x k) (edge old i k)) (λ h. refl) (λ k ks h. refl)
+    (λ k h t e lk. record { shaped = shaped-lin k (edge old i k) h t; as-many = e; paid = lin-cost h x k (edge old i k) t (omega arith) }) ks g s refl below
 
 pub fix-0-reduces : (g : Graph) (i : ℕ) → Shaped g → i < g .n → ReducedBy i (λ x. false) g (fix i 0 g)
 unfolding fix

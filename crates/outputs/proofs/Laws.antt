@@ -7,34 +7,24 @@ use native.Mathlib.Omega.{arith}
 use native.Mathlib.Numerals.{add-one}
 use native.Mathlib.Decide.{ℕ-discrete}
 use lib.Dec.{ltb}
-use lib.ListN.{getD, set, take, length, replicate, length-append, length-replicate, length-map, List·getD-append, List·getD-map, List·getD-eq-default, getD-replicate}
-use lib.Seq.{take-suc-set, append-snoc, getD-set-same, getD-set-other, getD-take, length-take-le, ext-getD, getD-append-add}
+use lib.ListN.{getD, set, take, length, replicate, length-append, length-replicate, length-map, List·getD-append}
+use lib.Seq.{take-suc-set, append-snoc, getD-set-same, getD-set-other, getD-take, length-take-le, ext-getD}
 use lib.IntN.{ℤ, pos}
 use borrow.Author.Tests.{ltb-true, ltb-false}
 use Rattle.whole.specs.Words.{those, from, upto, tab}
 use Rattle.whole.specs.Lists.{tab-at, tab-map, length-tab}
+use Rattle.whole.specs.Those.{rest-more}
+pub use Rattle.whole.specs.Those.{rest-same as those-same, rest-end as those-end}
 use Rattle.rules.specs.Graph.{Graph, actives}
 use Rattle.rules.specs.Outcome.{linearOut, cell, edgeOut}
 use Rattle.outputs.specs.Out.{rest, Places, linearAt, edgeAt, linearOf, cellOf}
 use Rattle.outputs.specs.declared.Remaining.{Remaining}
 
 module _ (p : ℕ → Bool) (n i : ℕ) where
-  pub those-more : i < n → p i ≡ true → those p (from i (n - i)) ≡ i ∷ those p (from (i + 1) (n - (i + 1)))
-  unfolding those from
-  those-more h e = let d : n - i ≡ suc (n - (i + 1)) = omega arith in rw (d, add-one, e)
-
-  pub those-same : i < n → p i ≡ false → those p (from i (n - i)) ≡ those p (from (i + 1) (n - (i + 1)))
-  unfolding those from
-  those-same h e = let d : n - i ≡ suc (n - (i + 1)) = omega arith in rw (d, add-one, e)
-
-  pub those-end : n ≤ i → those p (from i (n - i)) ≡ []
-  unfolding those from
-  those-end h = let d : n - i ≡ 0 = omega arith in rw d
-
   -- a decision joins the list
   pub listed : (l : List ℕ) (m : ℕ) (all : List ℕ) → m < length l → i < n → p i ≡ true → take m l ++ those p (from i (n - i)) ≡ all → take (m + 1) (set l m i) ++ those p (from (i + 1) (n - (i + 1))) ≡ all
   listed l m all h k e d =
-      rw (add-one, take-suc-set l m i h) (append-snoc (take m l) i (those p (from (i + 1) (n - (i + 1)))) ∙ ap (λ (t : List ℕ). take m l ++ t) (sym (those-more k e)) ∙ d)
+      rw (add-one, take-suc-set l m i h) (append-snoc (take m l) i (those p (from (i + 1) (n - (i + 1)))) ∙ ap (λ (t : List ℕ). take m l ++ t) (sym (rest-more p n i k e)) ∙ d)
 
 pub below-set : (b : ℕ) (l : List ℕ) (m v : ℕ) → m < length l → v < b → ((k : ℕ) → getD l k 0 < b) → (k : ℕ) → getD (set l m v) k 0 < b
 below-set b l m v h hv f k = by (ℕ-discrete k m)

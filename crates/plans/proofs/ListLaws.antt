@@ -1,14 +1,12 @@
--- Laws of plain lists: one more stored at the end of a front part, and those of a range that pass.
+-- Laws of plain lists: one more stored at the end of a front part.
 -- Assumes nothing.
 use mathlib.Core.Path.{_≡_, refl, ap, sym, _∙_}
-use mathlib.Core.Bool.{Bool, true, false}
 use mathlib.Core.List.{List, [], _∷_, _++_, tail}
-use Prim.Native.Nat.{ℕ, zero, suc, _+_, _-_, _<_, _≤_}
+use Prim.Native.Nat.{ℕ, zero, suc, _+_, _<_, _≤_}
 use native.Mathlib.Omega.{arith}
 use native.Mathlib.Numerals.{add-one}
 use lib.ListN.{length, getD, set, take, drop, replicate}
 use lib.Seq.{drop-cons, take-suc, take-suc-set, set-at, append-snoc, length-take-le}
-use Rattle.whole.specs.Words.{from, those}
 
 -- v is stored at m, after which the front part has one more
 pub store-more : (l : List ℕ) (m v : ℕ) (ys : List ℕ) → m < length l → take (m + 1) (set l m v) ++ ys ≡ take m l ++ v ∷ ys
@@ -33,16 +31,3 @@ pub take-replicate : (a b v : ℕ) → a ≤ b → take a (replicate b v) ≡ re
 take-replicate zero b v h = refl
 take-replicate (suc a) zero v h = absurd (omega arith)
 take-replicate (suc a) (suc b) v h = ap (λ (t : List ℕ). v ∷ t) (take-replicate a b v (omega arith))
-
-module _ (p : ℕ → Bool) (n i : ℕ) where
-  pub those-more : i < n → p i ≡ true → those p (from i (n - i)) ≡ i ∷ those p (from (i + 1) (n - (i + 1)))
-  unfolding those from
-  those-more h e = let d : n - i ≡ suc (n - (i + 1)) = omega arith in rw (d, add-one, e)
-
-  pub those-same : i < n → p i ≡ false → those p (from i (n - i)) ≡ those p (from (i + 1) (n - (i + 1)))
-  unfolding those from
-  those-same h e = let d : n - i ≡ suc (n - (i + 1)) = omega arith in rw (d, add-one, e)
-
-  pub those-end : n ≤ i → those p (from i (n - i)) ≡ []
-  unfolding those from
-  those-end h = let d : n - i ≡ 0 = omega arith in rw d

@@ -12,8 +12,9 @@ use lib.ListN.{length, getD, set, take, drop, replicate, length-map, length-set,
 use lib.Seq.{drop-cons, getD-drop, getD-take, drop-set-lt, take-add, length-take-le}
 use borrow.Author.Tests.{eq-eqb, ne-eqb}
 use Rattle.whole.specs.Words.{from, those}
+use Rattle.whole.specs.Those.{rest-more, rest-same, rest-end}
 use Rattle.rules.specs.Back.{place, remainingOf, project}
-use Rattle.plans.proofs.ListLaws.{store-more, tail-drop, take-replicate, those-more, those-same, those-end}
+use Rattle.plans.proofs.ListLaws.{store-more, tail-drop, take-replicate}
 
 -- the first n of 64 states, and the one at i
 pub record Front (states : List ℕ) (n i : ℕ) : Type 0 where
@@ -59,17 +60,17 @@ left ss i = those (remains ss) (from i (length ss - i))
 
 module _ (ss : List ℕ) (i : ℕ) (h : i < length ss) where
   pub left-more : getD ss i 0 ≡ 2 → left ss i ≡ i ∷ left ss (i + 1)
-  left-more e = those-more (remains ss) (length ss) i h (eq-eqb _ 2 e)
+  left-more e = rest-more (remains ss) (length ss) i h (eq-eqb _ 2 e)
 
   pub left-same : (getD ss i 0 ≡ 2 → ⊥) → left ss i ≡ left ss (i + 1)
-  left-same e = those-same (remains ss) (length ss) i h (ne-eqb _ 2 e)
+  left-same e = rest-same (remains ss) (length ss) i h (ne-eqb _ 2 e)
 
 pub left-all : (ss : List ℕ) → left ss 0 ≡ remainingOf ss
 unfolding remainingOf
 left-all ss = rw sub-zero
 
 pub left-none : (ss : List ℕ) (i : ℕ) → length ss ≤ i → left ss i ≡ []
-left-none ss i h = those-end (remains ss) (length ss) i h
+left-none ss i h = rest-end (remains ss) (length ss) i h
 
 -- ---- taking out: k entries are taken, and the rest of the output is zeros
 abbrev pub entries : List ℕ → List ℕ → List ℕ

@@ -3,23 +3,13 @@
 use mathlib.Core.Path.{_≡_, refl, sym}
 use mathlib.Core.Bool.{Bool, true, false, _&&_}
 use mathlib.Core.List.{List, [], _∷_, map}
-use Prim.Native.Nat.{ℕ, suc, _+_, _-_, _<_, _≤_}
-use native.Mathlib.Omega.{arith}
+use Prim.Native.Nat.{ℕ, _+_, _-_, _<_, _≤_}
 use native.Mathlib.Numerals.{add-one}
 use lib.ListN.{length, getD, take, drop, drop-of-length-le}
 use lib.Seq.{drop-cons, length-take-le, getD-take}
 use borrow.Author.Tests.{eq-eqb, ne-eqb}
 use Rattle.whole.specs.Words.{from, mem, all, allOf}
-
-pub from-more : (i n : ℕ) → i < n → from i (n - i) ≡ i ∷ from (i + 1) (n - (i + 1))
-unfolding from
-from-more i n h =
-    let e : n - i ≡ suc (n - (i + 1)) = omega arith in
-    rw (e, add-one)
-
-pub from-end : (i n : ℕ) → n ≤ i → from i (n - i) ≡ []
-unfolding from
-from-end i n h = let e : n - i ≡ 0 = omega arith in rw e
+use Rattle.whole.specs.Those.{from-more, from-end}
 
 module _ (p : ℕ → Bool) (i n : ℕ) where
   pub all-fails : i < n → p i ≡ false → all p (from i (n - i)) ≡ false

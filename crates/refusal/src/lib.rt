@@ -1,32 +1,11 @@
 // Whether a call of `reduce` is refused, and by which row of the table.
 ghost use mathlib.Core.Path.{_≡_};
-ghost use mathlib.Core.Bool.{cond, _||_};
 ghost use mathlib.Core.List.{[], _∷_};
 ghost use Prim.Native.Nat.{_+_, _≤_, min};
 ghost use lib.Dec.{leb};
-ghost use lib.IntN.{natAbs};
 ghost use Rattle.whole.specs.Words.{some, oneOf};
 ghost use Rattle.rules.specs.Objective.{objective, weightOf};
 ghost use Rattle.rules.specs.Refuse.{over, badLengths, reduceRefusal};
-
-fn either(a: bool, b: bool) -> bool
-    ensures { λ r. ⌜ r ≡ (a || b) ⌝ }
-{
-    if a {
-        return true;
-    }
-    b
-}
-
-// A row's number where it holds, else what the rows below it give.
-fn row(number: u8, held: bool, below: u8) -> u8
-    ensures { λ r. ⌜ r ≡ cond held number below ⌝ }
-{
-    if held {
-        return number;
-    }
-    below
-}
 
 // Is one of these n or more?
 fn any_from(list: &[u32], n: u32) -> bool
@@ -56,18 +35,6 @@ pub fn any_over(list: &[u8], limit: u8) -> bool
     false
 }
 
-// |x| of any i64, the least too.
-fn magnitude(x: i64) -> u64
-    ensures { λ r. ⌜ r ≡ natAbs x ⌝ }
-{
-    if x < 0 {
-        let m = -(x + 1);
-        (m as u64) + 1
-    } else {
-        x as u64
-    }
-}
-
 // The weight of the list and what came before it, no further than one over 2^40, so that no sum overflows.
 fn weigh(start: u64, w: &[i64]) -> u64
     requires { ⌜ start ≤ 1099511627777 ⌝ }
@@ -76,7 +43,7 @@ fn weigh(start: u64, w: &[i64]) -> u64
     let mut s: u64 = start;
     let mut i: usize = 0;
     while i < w.len() {
-        let m = magnitude(w[i]);
+        let m = signed::magnitude(w[i]);
         if m > 1099511627777 - s {
             return 1099511627777;
         }
@@ -101,10 +68,16 @@ fn bad_lengths(
 {
     let size = n as usize;
     let terms = firsts.len();
-    let outputs = either(l != 64, either(e != 4096, false));
-    let lists = either(term_weights.len() != terms, either(terms > 4096, outputs));
-    let pairs = either(seconds.len() != terms, lists);
-    either(weights.len() != size, either(fixings.len() != size, pairs))
+    let outputs = rows::either(l != 64, rows::either(e != 4096, false));
+    let lists = rows::either(
+        term_weights.len() != terms,
+        rows::either(terms > 4096, outputs),
+    );
+    let pairs = rows::either(seconds.len() != terms, lists);
+    rows::either(
+        weights.len() != size,
+        rows::either(fixings.len() != size, pairs),
+    )
 }
 
 // Row 3.
@@ -113,7 +86,7 @@ fn bad_index(n: u32, firsts: &[u32], seconds: &[u32]) -> bool
 {
     let first = any_from(firsts, n);
     let second = any_from(seconds, n);
-    either(first, either(second, false))
+    rows::either(first, rows::either(second, false))
 }
 
 // Row 6.
@@ -139,10 +112,10 @@ pub fn refusal(
 ) -> u8
     ensures { λ r. ⌜ r ≡ reduceRefusal (objective n (now (weights .entry)) (now (firsts .entry)) (now (seconds .entry)) (now («term_weights» .entry)) (now (fixings .entry)) switches budget) l e ⌝ }
 {
-    let six = row(6, too_heavy(weights, term_weights), 0);
-    let five = row(5, switches > 15, six);
-    let four = row(4, any_over(fixings, 2), five);
-    let three = row(3, bad_index(n, firsts, seconds), four);
+    let six = rows::row(6, too_heavy(weights, term_weights), 0);
+    let five = rows::row(5, switches > 15, six);
+    let four = rows::row(4, any_over(fixings, 2), five);
+    let three = rows::row(3, bad_index(n, firsts, seconds), four);
     let lengths = bad_lengths(n, weights, firsts, seconds, term_weights, fixings, l, e);
-    row(1, n > 64, row(2, lengths, three))
+    rows::row(1, n > 64, rows::row(2, lengths, three))
 }

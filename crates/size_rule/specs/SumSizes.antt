@@ -1,17 +1,17 @@
 -- In a graph within the size rule: for each sum that a reduction makes on the way, a bound far below 2^63. 2^40 = 1,099,511,627,776.
 -- Assumes nothing.
+use mathlib.Core.Path.{_≡_}
 use mathlib.Core.Bool.{Bool, true, false, cond, not}
 use mathlib.Core.List.{List, [], _∷_}
 use Prim.Native.Nat.{ℕ, _+_, _*_, _/_, _≤_}
 use native.Mathlib.Omega.{arith}
 use lib.Dec.{eqb}
-use lib.ListN.{length, set, length-map}
+use lib.ListN.{length, length-map}
 use lib.IntN.{ℤ, pos, negℤ, _+ℤ_, _-ℤ_}
 use Rattle.whole.specs.Words.{odd, isZeroZ, chosen}
 use Rattle.whole.specs.Parts.{∣_∣, P-neg, N-neg}
 use Rattle.whole.specs.Cmp.{below0-abs}
-use Rattle.whole.specs.Pigeon.{pigeon}
-use Rattle.whole.specs.Members.{apart-those, apart-upto}
+use Rattle.whole.specs.Those.{those-most}
 use Rattle.rules.specs.Graph.{Graph, lin, edge, neighbours, degree, row, addConstant, addLinear, addEdge, dropTo}
 use Rattle.rules.specs.Fixing.{spread}
 use Rattle.rules.specs.Eliminate.{delta, tee}
@@ -19,19 +19,24 @@ use Rattle.rules.specs.DegreeThree.{moebius}
 use Rattle.rules.specs.DominantEdge.{lo, hi, positive, upper, lower, negatives, positives, turn, move}
 use Rattle.rules.specs.SmallBlock.{inner, boundary, blockTable, bestMask}
 use Rattle.rules.specs.Size.{Within}
-use Rattle.size_rule.specs.Sizes.{Each, add-size, sub-size, when-size, each-wider, each-set, each-gain, each-clear, each-map, chosen-size, negatives-size, positives-size, moebius-size}
+use Rattle.accepted.specs.Small.{Small, small-more, small-set, small-gain, small-gains, small-clear, small-map}
+use Rattle.size_rule.specs.Sizes.{add-size, sub-size, part-size, when-size, chosen-size, negatives-size, positives-size, moebius-size}
 
 pub degree-few : (g : Graph) (i : ℕ) → degree g i ≤ g .n
 unfolding neighbours
-degree-few g i = pigeon (g .n) (apart-those (λ j. not (isZeroZ (edge g i j))) (apart-upto (g .n)))
+degree-few g i = those-most (λ j. not (isZeroZ (edge g i j))) (g .n)
 
 module _ (g : Graph) (w : Within g) where
   -- i's edges, to whatever decisions
-  pub row-each : (i : ℕ) (js : List ℕ) → Each 2199023255552 (row g i js)
-  row-each i js = each-map (edge g i) (λ j. w .edges (64 * i + j)) js
+  pub row-each : (i : ℕ) (js : List ℕ) → Small 2199023255552 (row g i js)
+  row-each i js = small-map (edge g i) js (λ j. w .edges (64 * i + j))
 
   pub chosen-edges : (i : ℕ) (js : List ℕ) (m : ℕ) → ∣ chosen (row g i js) m ∣ ≤ length js * 2199023255552
   chosen-edges i js m = rw (length-map js (edge g i)) at (chosen-size (row g i js) m (row-each i js))
+
+  -- the sum so far, where js are all and ks are left
+  pub chosen-part : (i : ℕ) (js ks : List ℕ) (m r : ℕ) (s : ℤ) → s +ℤ chosen (row g i ks) r ≡ chosen (row g i js) m → ∣ s ∣ ≤ length js * 2199023255552 + length ks * 2199023255552
+  chosen-part i js ks m r s e = part-size s (chosen (row g i ks) r) (chosen (row g i js) m) e (chosen-edges i js m) (chosen-edges i ks r)
 
   -- ---- Eliminate and degree three
   -- "delta(mask) is a plus the chosen edges"
@@ -106,50 +111,52 @@ module _ (g : Graph) (w : Within g) where
   pub inner-size : (out is : List ℕ) (f m : ℕ) → length out ≤ 2 → length is ≤ 8 → ∣ inner g out f is m ∣ ≤ 184717953466368
   inner-size out is f m ho hi = omega (arith, inner-by-members 23089744183296 out is f m (omega arith))
 
+  -- the cost so far, where the members ks are left
+  pub inner-part : (out is ks : List ℕ) (f m r : ℕ) (s : ℤ) → length out ≤ 2 → length is ≤ 8 → length ks ≤ 8 → s +ℤ inner g out f ks r ≡ inner g out f is m → ∣ s ∣ ≤ 369435906932736
+  inner-part out is ks f m r s ho hi hk e = part-size s (inner g out f ks r) (inner g out f is m) e (inner-size out is f m ho hi) (inner-size out ks f r ho hk)
+
   pub table-size : (b : List ℕ) (f : ℕ) → length (boundary g b) ≤ 2 → length b ≤ 8 → ∣ blockTable g b f ∣ ≤ 184717953466368
   table-size b f ho hi = inner-size (boundary g b) b f (bestMask g b f) ho hi
 
 -- ---- on the way through a reduction: every number of a graph is at most b
 pub record Sized (b : ℕ) (g : Graph) : Type 0 where
   pub constant : ∣ g .constant ∣ ≤ b
-  pub linear : Each b (g .linear)
-  pub edges : Each b (g .edges)
+  pub linear : Small b (g .linear)
+  pub edges : Small b (g .edges)
 
 pub within-sized : {g : Graph} → Within g → Sized 2199023255552 g
-within-sized {g} w = record { constant = omega (arith, w .constant); linear = λ k. omega (arith, w .linear k); edges = w .edges }
+within-sized {g} w = record { constant = omega (arith, w .constant); linear = record { each = λ k. omega (arith, w .linear k) }; edges = record { each = w .edges } }
 
 pub sized-wider : {b c : ℕ} {g : Graph} → b ≤ c → Sized b g → Sized c g
-sized-wider {b} {c} {g} h s = record { constant = omega (arith, s .constant); linear = each-wider (g .linear) h (s .linear); edges = each-wider (g .edges) h (s .edges) }
+sized-wider {b} {c} {g} h s = record { constant = omega (arith, s .constant); linear = small-more c (s .linear) h; edges = small-more c (s .edges) h }
 
 pub sized-drop : {b : ℕ} {g : Graph} (t i : ℕ) → Sized b g → Sized b (dropTo t i g)
 unfolding dropTo
-sized-drop {b} {g} t i s = record { constant = s .constant; linear = each-set (g .linear) i (pos 0) (s .linear) (omega arith); edges = each-clear i (g .n) (g .edges) (s .edges) }
+sized-drop {b} {g} t i s = record { constant = s .constant; linear = small-set i (pos 0) (s .linear) (omega arith); edges = small-clear i (g .n) (s .edges) }
 
 module _ {b c : ℕ} {g : Graph} (v : ℤ) (s : Sized b g) (h : ∣ v ∣ ≤ c) where
   pub sized-constant : Sized (b + c) (addConstant v g)
   unfolding addConstant
   sized-constant = record {
     constant = add-size (g .constant) v (s .constant) h;
-    linear = each-wider (g .linear) (omega arith) (s .linear);
-    edges = each-wider (g .edges) (omega arith) (s .edges);
+    linear = small-more (b + c) (s .linear) (omega arith);
+    edges = small-more (b + c) (s .edges) (omega arith);
   }
 
   pub sized-linear : (k : ℕ) → Sized (b + c) (addLinear k v g)
   unfolding addLinear
   sized-linear k = record {
     constant = omega (arith, s .constant);
-    linear = each-gain (g .linear) k v (s .linear) h;
-    edges = each-wider (g .edges) (omega arith) (s .edges);
+    linear = small-gain k v (s .linear) h;
+    edges = small-more (b + c) (s .edges) (omega arith);
   }
 
   pub sized-edge : (k l : ℕ) → Sized (b + c) (addEdge k l v g)
   unfolding addEdge
   sized-edge k l = record {
     constant = omega (arith, s .constant);
-    linear = each-wider (g .linear) (omega arith) (s .linear);
-    edges =
-        each-set (set (g .edges) (64 * k + l) (edge g k l +ℤ v)) (64 * l + k) (edge g l k +ℤ v)
-        (each-gain (g .edges) (64 * k + l) v (s .edges) h) (add-size (edge g l k) v (s .edges (64 * l + k)) h);
+    linear = small-more (b + c) (s .linear) (omega arith);
+    edges = small-gains (64 * k + l) (64 * l + k) v (s .edges) h;
   }
 
 -- what a fixing and a contraction add, after any part of the neighbours

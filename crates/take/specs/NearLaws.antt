@@ -2,7 +2,8 @@
 -- Assumes nothing.
 use mathlib.Core.Path.{_≡_, refl, sym, ap, subst}
 use Rattle.rules.specs.Size.{Within}
-use Rattle.graph.specs.Small.{Small, small-near}
+use Rattle.accepted.specs.Small.{Small}
+use Rattle.graph.specs.Small.{small-near}
 use mathlib.Core.List.{List}
 use Prim.Native.Nat.{ℕ, _-_, _≤_}
 use native.Mathlib.Omega.{arith}

@@ -13,7 +13,7 @@ ghost use Rattle.rules.specs.DegreeThree.{cubic};
 ghost use Rattle.graph.specs.Held.{held};
 ghost use Rattle.rules.specs.Graph.{Graph};
 ghost use Rattle.graph.specs.Near.{nearOf};
-ghost use Rattle.graph.specs.Small.{Small};
+ghost use Rattle.accepted.specs.Small.{Small};
 ghost use Rattle.dominant_edge.specs.Answer.{dominantOf};
 ghost use Rattle.take.specs.Ready.{Ready, Goes, Takeable, Takes};
 use dominant_edge::Dominant;

@@ -6,7 +6,7 @@ use Prim.Native.Nat.{_≤_}
 use native.Mathlib.Omega.{arith}
 use lib.IntN.{ℤ, pos, _+ℤ_}
 use lib.Signed.{ltZ, _≤ℤ_}
-use Rattle.whole.specs.Words.{below0}
+use Rattle.whole.specs.Words.{below0, above0}
 use Rattle.whole.specs.Parts.{∣_∣}
 use Rattle.whole.specs.Ints.{ints, zarith}
 
@@ -42,6 +42,9 @@ minZ-add a b c = lt-ind a b (λ t. minZ (a +ℤ c) (b +ℤ c) ≡ cond t a b +�
 
 pub below0-abs : (z : ℤ) → ∣ below0 z ∣ ≤ ∣ z ∣
 below0-abs z = lt-ind z (pos 0) (λ t. ∣ cond t z (pos 0) ∣ ≤ ∣ z ∣) (λ e. omega arith) (λ e. omega arith)
+
+pub above0-abs : (z : ℤ) → ∣ above0 z ∣ ≤ ∣ z ∣
+above0-abs z = lt-ind z (pos 0) (λ t. ∣ cond t (pos 0) z ∣ ≤ ∣ z ∣) (λ e. omega arith) (λ e. omega arith)
 
 -- the order's laws, each a call of the tactic: write the call rather than cite them
 pub ≤ℤ-trans : {a b c : ℤ} → a ≤ℤ b → b ≤ℤ c → a ≤ℤ c

@@ -10,4 +10,5 @@ pub mod Tests
 pub mod Lists
 pub mod Pigeon
 pub mod Members
+pub mod Those
 pub mod Masks

@@ -22,7 +22,7 @@ use Rattle.rules.specs.Call.{reported}
 use Rattle.rules.specs.WriteText.{edgeLines, stepLines, written}
 use Rattle.rules.specs.declared.Step.{Step}
 use Rattle.rules.specs.declared.Reduction.{Reduction}
-use Rattle.write_text.specs.Those.{those-most}
+use Rattle.whole.specs.Those.{those-most}
 use Rattle.write_text.specs.Bounds.{All, Near3, Moderate, written-most}
 use Rattle.write_text.specs.Held.{held, Short, Fair, opening, closing}
 use Rattle.write_text.specs.Puts.{room}

@@ -3,6 +3,5 @@ pub mod Held
 pub mod WriteLaws
 pub mod Bounds
 pub mod Back
-pub mod Those
 pub mod HeldLaws
 pub mod CallLaws

@@ -78,15 +78,21 @@ pub listedZ-none : (ws : List ℤ) (j : ℕ) → length ws ≤ j → listedZ (dr
 unfolding listedZ
 listedZ-none ws j h = rw (drop-of-length-le ws h)
 
-pub choices-left : (k m : ℕ) → 0 < k → Begins (listed (choicesOf k m)) (32 ∷ shown (m % 2)) (listed (choicesOf (k - 1) (m / 2)))
-unfolding listed choicesOf
-choices-left zero m h = absurd (omega arith)
-choices-left (suc k) m h = let e : suc k - 1 ≡ k = omega arith in record { parts = rw e }
+pub choices-length : (k m : ℕ) → k ≡ length (choicesOf k m)
+unfolding choicesOf
+choices-length zero m = refl
+choices-length (suc k) m = ap suc (choices-length k (m / 2))
 
-pub choices-none : (k m : ℕ) → k ≤ 0 → listed (choicesOf k m) ≡ []
-unfolding listed choicesOf
-choices-none zero m h = refl
-choices-none (suc k) m h = absurd (omega arith)
+-- the first k of more choices; of a byte's eight
+choices-first : (k n m : ℕ) → k ≤ n → take k (choicesOf n m) ≡ choicesOf k m
+unfolding choicesOf
+choices-first zero n m h = refl
+choices-first (suc k) zero m h = absurd (omega arith)
+choices-first (suc k) (suc n) m h = ap (λ (t : List ℕ). m % 2 ∷ t) (choices-first k n (m / 2) (omega arith))
+
+pub byte-first : (k m : ℕ) → k ≤ 8 → take k (m % 2 ∷ m / 2 % 2 ∷ m / 2 / 2 % 2 ∷ m / 2 / 2 / 2 % 2 ∷ m / 2 / 2 / 2 / 2 % 2 ∷ m / 2 / 2 / 2 / 2 / 2 % 2 ∷ m / 2 / 2 / 2 / 2 / 2 / 2 % 2 ∷ m / 2 / 2 / 2 / 2 / 2 / 2 / 2 % 2 ∷ []) ≡ choicesOf k m
+unfolding choicesOf
+byte-first k m h = choices-first k 8 m h
 
 pub steps-left : (ss : List Step) (d : Step) (j : ℕ) → j < length ss → Begins (stepLines (drop j ss)) (stepLine (getD ss j d)) (stepLines (drop (j + 1) ss))
 unfolding stepLines

@@ -3,13 +3,11 @@ use rules::Record;
 use rules::Reduction;
 use rules::Step;
 ghost use mathlib.Core.Path.{_≡_};
-ghost use mathlib.Core.Bool.{Bool, true, false};
-ghost use mathlib.Core.List.{List, [], _∷_, _++_};
-ghost use Prim.Native.Nat.{ℕ, _+_, _*_, _^_, _<_, _≤_};
-ghost use lib.ListN.{length, take, getD};
-ghost use lib.IntN.{ℤ, natAbs};
+ghost use mathlib.Core.Bool.{true};
+ghost use Prim.Native.Nat.{_+_, _^_, _<_, _≤_};
+ghost use lib.ListN.{length, take};
 ghost use Rattle.rules.specs.WriteText.{decimal, shownZ, listed, listedZ, edgeIf, edgeLine, edgeLines, choicesOf, stepLine, stepLines, written, writtenRefusal};
-ghost use Rattle.rules.specs.Record.{played, stepsOf, noStep};
+ghost use Rattle.rules.specs.Record.{played, stepsOf};
 ghost use Rattle.rules.specs.Back.{remainingOf};
 ghost use Rattle.write_text.specs.Puts.{Wrote, room, Shows};
 ghost use Rattle.write_text.specs.Held.{held, Fair, Short, opening, closing, replied};
@@ -50,23 +48,11 @@ fn put_digits(out: &mut [u8; ROOM], at: usize, v: u64, k: usize) -> usize
     p + 1
 }
 
-// |x| of any i64.
-fn magnitude(x: i64) -> u64
-    ensures { λ r. ⌜ r ≡ natAbs x ⌝ }
-{
-    if x < 0 {
-        let m = -(x + 1);
-        (m as u64) + 1
-    } else {
-        x as u64
-    }
-}
-
 fn put_signed(out: &mut [u8; ROOM], at: usize, w: i64) -> usize
     requires { ⌜ at + length (shownZ w) ≤ room ⌝ }
     ensures { λ r. ⌜ Wrote (now (out .entry)) at (shownZ w) (now (out .exit)) r ⌝ }
 {
-    let m = magnitude(w);
+    let m = signed::magnitude(w);
     if w < 0 {
         out[at] = 45;
         put_digits(out, at + 1, m, 20)
@@ -160,19 +146,17 @@ fn put_edges(out: &mut [u8; ROOM], at: usize, es: &[i64]) -> usize
 
 // The k lowest bits of m, bit 0 first.
 fn put_choices(out: &mut [u8; ROOM], at: usize, k: u8, m: u8) -> usize
-    requires { ⌜ at + length (listed (choicesOf k m)) ≤ room ⌝ }
+    requires { ⌜ (k ≤ 8) × (at + length (listed (choicesOf k m)) ≤ room) ⌝ }
     ensures { λ r. ⌜ Wrote (now (out .entry)) at (listed (choicesOf k m)) (now (out .exit)) r ⌝ }
 {
-    let mut p = at;
-    let mut left = k;
-    let mut b = m;
-    while 0 < left {
-        out[p] = 32;
-        p = put_digits(out, p + 1, wide(b % 2), 20);
-        b = b / 2;
-        left = left - 1;
-    }
-    p
+    let a = m / 2;
+    let b = a / 2;
+    let c = b / 2;
+    let d = c / 2;
+    let e = d / 2;
+    let f = e / 2;
+    let bits = [m % 2, a % 2, b % 2, c % 2, d % 2, e % 2, f % 2, f / 2 % 2];
+    put_list(out, at, &bits[..k as usize])
 }
 
 fn masks(d: u8) -> u8

@@ -36,7 +36,7 @@ loop-holds c =
     (omega arith, size-is (a .width) (omega (arith, c .pre .3)), lowest-none (own (now (a .lin)) (now (a .edges)) (now (a .order)) (a .count) (now (a .out)) (a .width)) (a .count))
 
 cheapest-mask-requires : tie.Need-cheapest-mask-requires Inv-loop μ-loop
-cheapest-mask-requires c κs = let s = c .before .before in (s .pre .0, s .pre .1, s .pre .2)
+cheapest-mask-requires c κs = let s = c .before .before in s .pre
 
 -- in a turn
 module _ (c : tie.In-loop Inv-loop μ-loop) where

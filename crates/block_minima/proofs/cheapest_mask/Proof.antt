@@ -14,6 +14,7 @@ use Rattle.whole.specs.Ints.{ints, rd}
 use Rattle.rules.specs.SmallBlock.{inner, cheapest}
 use Rattle.block_minima.specs.Weights.{weights, Listed}
 use Rattle.block_minima.specs.Turns.{cheapest-next, size-is}
+use Rattle.block_minima.specs.Bounds.{cost-size}
 use mathlib.Core.List.{List}
 use lib.Signed.{ltZ}
 use Rattle.block_minima.proofs.cheapest_mask.Statement.{statement}
@@ -26,10 +27,19 @@ abbrev Inv-loop : tie.InvT-loop
 Inv-loop linear edges list count out width filling size best₀ least₀ m₀ best least m =
     (1 ≤ m) × (m ≤ size) × (size ≡ 2 ^ count) × (best ≡ cheapest (inner (weights linear edges) (take width out) filling (take count list)) (m - 1))
     × (toZ w64 least ≡ inner (weights linear edges) (take width out) filling (take count list) best)
-    × (∣ toZ w64 least ∣ ≤ 290271069732864)
 
 abbrev μ-loop : tie.MeasureT-loop
 μ-loop linear edges list count out width filling size best₀ least₀ m₀ best least m = size - m
+
+-- the cost of a mask, and that it fits
+abbrev costOf : tie.Start Inv-loop μ-loop → ℕ → ℤ
+costOf s = inner (weights (now (s .args .linear)) (now (s .args .edges))) (take (s .args .width) (now (s .args .out))) (s .args .filling) (take (s .args .count) (now (s .args .list)))
+
+bounded : (s : tie.Start Inv-loop μ-loop) (m : ℕ) → ∣ costOf s m ∣ ≤ 184717953466368
+bounded s m = cost-size (weights (now (s .args .linear)) (now (s .args .edges))) (s .pre .0) (s .pre .1) (now (s .args .out)) (s .pre .3) (s .args .filling) m
+
+read : (s : tie.Start Inv-loop μ-loop) (m : ℕ) (z : ℤ) → z ≡ costOf s m → toZ w64 (ofZ w64 z) ≡ costOf s m
+read s m z e = let f : SFits w64 (costOf s m) = simp ints (omega (arith, bounded s m)) in rw e (rd f)
 
 shl-size : tie.Need-shl-size Inv-loop μ-loop
 shl-size c = omega (arith, c .pre .1 .few)
@@ -42,8 +52,7 @@ unfolding cheapest
 loop-holds c =
     let s = c .before in
     let size = size-is (s .args .count) (omega (arith, s .pre .1 .few)) in
-    let f : SFits w64 (c .inner-cost .result) = simp ints (omega (arith, c .inner-cost .ensures .1)) in
-    (omega arith, omega (arith, size, pow-pos (s .args .count)), size, refl, rd f ∙ c .inner-cost .ensures .0, rw (rd f) (c .inner-cost .ensures .1))
+    (omega arith, omega (arith, size, pow-pos (s .args .count)), size, refl, read s 0 (c .inner-cost .result) (c .inner-cost .ensures))
 
 inner-cost-requires-2 : tie.Need-inner-cost-requires-2 Inv-loop μ-loop
 inner-cost-requires-2 c κs = c .before .before .before .pre
@@ -60,17 +69,14 @@ loop-again : tie.Need-loop-again Inv-loop μ-loop
 loop-again c =
     let l = c .before .before .before .loop in
     let s = c .before .before .before .before .before in
-    let cost : ℕ → ℤ = inner (weights (now (s .args .linear)) (now (s .args .edges))) (take (s .args .width) (now (s .args .out))) (s .args .filling) (take (s .args .count) (now (s .args .list))) in
-    let i = c .before .inner-cost2 in
-    let f : SFits w64 (i .result) = simp ints (omega (arith, i .ensures .1)) in
-    let is : toZ w64 (ofZ w64 (i .result)) ≡ cost (l .m) = rd f ∙ i .ensures .0 in
+    let is = read s (l .m) (c .before .inner-cost2 .result) (c .before .inner-cost2 .ensures) in
     ⊎-elim
     (λ w.
-    let t : ltZ (cost (l .m)) (cost (l .best)) ≡ true = rw (← is, ← l .inv .4) (w .0 .taken) in
-    (omega arith, omega arith, l .inv .2, w .1 ∙ sym (cheapest-next cost (l .m) (l .best) true (l .inv .0) (l .inv .3) t), rw (w .2, w .1) is, rw (w .2, rd f) (i .ensures .1)))
+    let t : ltZ (costOf s (l .m)) (costOf s (l .best)) ≡ true = rw (← is, ← l .inv .4) (w .0 .taken) in
+    (omega arith, omega arith, l .inv .2, w .1 ∙ sym (cheapest-next (costOf s) (l .m) (l .best) true (l .inv .0) (l .inv .3) t), rw (w .2, w .1) is))
     (λ w.
-    let t : ltZ (cost (l .m)) (cost (l .best)) ≡ false = rw (← is, ← l .inv .4) (w .0 .left) in
-    (omega arith, omega arith, l .inv .2, w .1 ∙ sym (cheapest-next cost (l .m) (l .best) false (l .inv .0) (l .inv .3) t), rw (w .2, w .1) (l .inv .4), rw (w .2) (l .inv .5)))
+    let t : ltZ (costOf s (l .m)) (costOf s (l .best)) ≡ false = rw (← is, ← l .inv .4) (w .0 .left) in
+    (omega arith, omega arith, l .inv .2, w .1 ∙ sym (cheapest-next (costOf s) (l .m) (l .best) false (l .inv .0) (l .inv .3) t), rw (w .2, w .1) (l .inv .4)))
     (c .if1 .came)
 
 returns : tie.Need-returns Inv-loop μ-loop
@@ -78,7 +84,7 @@ returns c =
     let l = c .before .loop in
     let s = c .before .before .before in
     let last : l .m - 1 ≡ 2 ^ s .args .count - 1 = omega arith in
-    record { lowest = l .inv .3 ∙ ap (cheapest (inner (weights (now (s .args .linear)) (now (s .args .edges))) (take (s .args .width) (now (s .args .out))) (s .args .filling) (take (s .args .count) (now (s .args .list))))) last; costs = l .inv .4; bounded = l .inv .5 }
+    record { lowest = l .inv .3 ∙ ap (cheapest (costOf s)) last; costs = l .inv .4; bounded = omega (arith, ap ∣_∣ (l .inv .4), bounded s (l .best)) }
 
 pub cheapest-mask-spec : {M : Type 1} → statement M
 cheapest-mask-spec =

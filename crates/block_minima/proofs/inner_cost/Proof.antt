@@ -1,4 +1,4 @@
-use Prim.Native.Nat.{ℕ, _*_, _-_, _%_, _<_, _≤_}
+use Prim.Native.Nat.{ℕ, _-_, _%_, _<_, _≤_}
 use mathlib.Core.Path.{_≡_}
 use mathlib.Core.Logic.{⊎-elim}
 use native.Mathlib.Omega.{arith}
@@ -15,24 +15,28 @@ use Rattle.rules.specs.Graph.{Graph}
 use Rattle.rules.specs.SmallBlock.{inner}
 use Rattle.block_minima.specs.Weights.{weights}
 use Rattle.block_minima.specs.Turns.{inner-turn, inner-end}
+use Rattle.block_minima.specs.Bounds.{cost-part}
 use Rattle.block_minima.proofs.inner_cost.Statement.{statement}
 use Rattle.block_minima.proofs.inner_cost.Tie as tie
 
 abbrev Inv-loop : tie.InvT-loop
 Inv-loop linear edges list count out width filling mask s₀ p₀ rest₀ s p rest =
-    (p ≤ count) × (∣ toZ w64 s ∣ ≤ p * 36283883716608)
+    (p ≤ count)
     × (toZ w64 s +ℤ inner (weights linear edges) (take width out) filling (drop p (take count list)) rest ≡ inner (weights linear edges) (take width out) filling (take count list) mask)
 
 abbrev μ-loop : tie.MeasureT-loop
 μ-loop linear edges list count out width filling mask s₀ p₀ rest₀ s p rest = count - p
 
 loop-holds : tie.Need-loop-holds Inv-loop μ-loop
-loop-holds c = (omega arith, omega arith, +ℤ-idl _)
+loop-holds c = (omega arith, +ℤ-idl _)
 
--- in a turn
+-- the member of a turn
 module _ (c : tie.In-loop Inv-loop μ-loop) where
   abbrev a : tie.Start Inv-loop μ-loop
   a = c .before .before
+
+  abbrev g : Graph
+  g = weights (now (a .args .linear)) (now (a .args .edges))
 
   abbrev i : ℕ
   i = getD (now (a .args .list)) (c .before .loop .p) 0
@@ -40,14 +44,11 @@ module _ (c : tie.In-loop Inv-loop μ-loop) where
   low : i < 64
   low = a .pre .1 .low (c .before .loop .p) (c .loop-test .taken)
 
-  small : c .before .loop .p < 8
-  small = omega (arith, a .pre .1 .few)
-
 mul-i : tie.Need-mul-i Inv-loop μ-loop
-mul-i c = omega (arith, small (c .before))
+mul-i c = omega (arith, a (c .before) .pre .1 .few)
 
 element-copy-out-i : tie.Need-element-copy-out-i Inv-loop μ-loop
-element-copy-out-i c = omega (arith, small (c .before))
+element-copy-out-i c = omega (arith, a (c .before) .pre .1 .few)
 
 mul-a : tie.Need-mul-a Inv-loop μ-loop
 mul-a c = omega (arith, low (c .before .before))
@@ -85,6 +86,11 @@ module _ (c : tie.After-pull2 Inv-loop μ-loop) where
   bound : ∣ getD (now (a turn .args .linear)) (i turn) (pos 0) ∣ ≤ 1099511627776
   bound = a turn .pre .0 .linear (i turn)
 
+  so-far : ∣ toZ w64 (turn .before .loop .s) ∣ ≤ 369435906932736
+  so-far =
+      let l = turn .before .loop in
+      cost-part (g turn) (a turn .pre .0) (a turn .pre .1) (now (a turn .args .out)) (a turn .pre .3) (a turn .args .filling) (l .p) (a turn .args .mask) (l .rest) (toZ w64 (l .s)) (l .inv .1)
+
 add-s : tie.Need-add-s Inv-loop μ-loop
 add-s c = rw (rd (own c), rd (out-fits c)) (simp ints (omega (zarith, bound c, c .before .pull .ensures .1)))
 
@@ -94,7 +100,7 @@ add-s-2 c = rw (rd (add-s c), rd (own c), rd (out-fits c), rd (in-fits c)) (simp
 add-s-3 : tie.Need-add-s-3 Inv-loop μ-loop
 add-s-3 c =
     rw (rd (add-s-2 c), rd (add-s c), rd (own c), rd (out-fits c), rd (in-fits c))
-    (simp ints (omega (zarith, bound c, c .before .pull .ensures .1, c .pull2 .ensures .1, small (turn c), turn c .before .loop .inv .1)))
+    (simp ints (omega (zarith, bound c, c .before .pull .ensures .1, c .pull2 .ensures .1, so-far c)))
 
 add-p : tie.Need-add-p Inv-loop μ-loop
 add-p c = search needs
@@ -106,29 +112,23 @@ loop-again : tie.Need-loop-again Inv-loop μ-loop
 loop-again c =
     let t = c .before in
     let l = t .before .loop in
-    let g : Graph = weights (now (a t .args .linear)) (now (a t .args .edges)) in
-    let next = inner-turn (now (a t .args .list)) (a t .args .count) (a t .pre .1) g (take (a t .args .width) (now (a t .args .out))) (a t .args .filling) (l .p) (l .rest) (toZ w64 (l .s)) _ (t .loop-test .taken) (l .inv .2) in
+    let next = inner-turn (now (a t .args .list)) (a t .args .count) (a t .pre .1) (g t) (take (a t .args .width) (now (a t .args .out))) (a t .args .filling) (l .p) (l .rest) (toZ w64 (l .s)) _ (t .loop-test .taken) (l .inv .1) in
     ⊎-elim
     (λ w.
     let d : tie.After-pull2 Inv-loop μ-loop =
     record { before = record { before = record { before = record { before = record { before = t; if1 = w .0 }; i = w .1 }; a = w .2 }; pull = w .3 }; pull2 = w .4 } in
     let e : toZ w64 (c .if1 .s) ≡ toZ w64 (l .s) +ℤ (getD (now (a t .args .linear)) (i t) (pos 0) +ℤ w .3 .result +ℤ w .4 .result) =
-    rw (w .5, rd (add-s-3 d), rd (add-s-2 d), rd (add-s d), rd (own d), rd (out-fits d), rd (in-fits d)) in (
-      omega arith,
-      rw e (simp ints (omega (zarith, bound d, w .3 .ensures .1, w .4 .ensures .1, l .inv .1))),
-      rw (e, w .3 .ensures .0, w .4 .ensures .0, ← next, eq-eqb (l .rest % 2) 1 (w .0 .taken)),
-    ))
-    (λ w. (omega arith, rw (w .1) (omega arith), rw (w .1, ← next, ne-eqb (l .rest % 2) 1 (w .0 .left), +ℤ-idr (toZ w64 (l .s)))))
+    rw (w .5, rd (add-s-3 d), rd (add-s-2 d), rd (add-s d), rd (own d), rd (out-fits d), rd (in-fits d)) in
+    (omega arith, rw (e, w .3 .ensures .0, w .4 .ensures .0, ← next, eq-eqb (l .rest % 2) 1 (w .0 .taken))))
+    (λ w. (omega arith, rw (w .1, ← next, ne-eqb (l .rest % 2) 1 (w .0 .left), +ℤ-idr (toZ w64 (l .s)))))
     (c .if1 .came)
 
 returns : tie.Need-returns Inv-loop μ-loop
 returns c =
     let l = c .before .loop in
     let s = c .before .before in
-    let last : l .p ≡ s .args .count = omega arith in (
-      inner-end (now (s .args .list)) (s .args .count) (s .pre .1) (weights (now (s .args .linear)) (now (s .args .edges))) (take (s .args .width) (now (s .args .out))) (s .args .filling) (l .p) (l .rest) (toZ w64 (l .s)) _ last (l .inv .2),
-      omega (arith, s .pre .1 .few),
-    )
+    let last : l .p ≡ s .args .count = omega arith in
+    inner-end (now (s .args .list)) (s .args .count) (s .pre .1) (weights (now (s .args .linear)) (now (s .args .edges))) (take (s .args .width) (now (s .args .out))) (s .args .filling) (l .p) (l .rest) (toZ w64 (l .s)) _ last (l .inv .1)
 
 pub inner-cost-spec : {M : Type 1} → statement M
 inner-cost-spec =

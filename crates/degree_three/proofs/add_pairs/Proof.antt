@@ -3,7 +3,7 @@ use Rattle.graph.specs.HeldLaws.{edge-gain}
 use Rattle.degree_three.specs.declared.Pair.{Pair}
 use Rattle.rules.specs.DegreeThree.{pairs, addPairs}
 use Rattle.rules.specs.Graph.{graph, addEdge}
-use Rattle.graph.specs.Small.{Small, small-more, small-gains}
+use Rattle.accepted.specs.Small.{Small, small-more, small-gains}
 use Rattle.low_degree.proofs.Laws.{read, gain-fits}
 use lib.IntN.{ℤ, pos}
 use lib.ListN.{getD, drop}

@@ -6,7 +6,8 @@ use Rattle.low_degree.specs.TableLaws.{table-asks, step-table, tee-small}
 use Rattle.graph.proofs.Laws.{zero-is, zero-not}
 use Rattle.graph.specs.Held.{held}
 use Rattle.graph.specs.NearLaws.{near-below}
-use Rattle.graph.specs.Small.{Small, small-more, small-tab, dropped-constant, dropped-linear, dropped-edges}
+use Rattle.accepted.specs.Small.{Small, small-more, small-tab}
+use Rattle.graph.specs.Small.{dropped-constant, dropped-linear, dropped-edges}
 use Rattle.rules.specs.Graph.{Graph}
 use Rattle.rules.specs.Eliminate.{delta, tee, stepOf}
 use Rattle.rules.specs.DegreeThree.{moebius, cubic, eliminate3}

@@ -5,7 +5,8 @@ use Rattle.rules.specs.Graph.{Graph, lin, edge}
 use Rattle.rules.specs.DominantEdge.{positive}
 use Rattle.graph.specs.Held.{held}
 use Rattle.graph.specs.NearLaws.{near-count, near-below, few-neighbours}
-use Rattle.graph.specs.Small.{Small, small-more, small-gain, small-near, dropped-constant, dropped-linear, dropped-edges}
+use Rattle.accepted.specs.Small.{Small, small-more, small-gain}
+use Rattle.graph.specs.Small.{small-near, dropped-constant, dropped-linear, dropped-edges}
 use Rattle.graph.specs.declared.Near.{Near}
 use Rattle.whole.specs.Ints.{ints}
 use lib.IntN.{ℤ, negℤ, _+ℤ_}

@@ -3,7 +3,7 @@ use Rattle.rules.specs.DominantEdge.{move}
 use Rattle.rules.specs.Graph.{Graph, graph, neighbours, addEdge}
 use Rattle.graph.specs.HeldLaws.{edge-gain}
 use Rattle.graph.specs.Near.{nearOf}
-use Rattle.graph.specs.Small.{Small, small-more, small-gains}
+use Rattle.accepted.specs.Small.{Small, small-more, small-gains}
 use Rattle.graph.specs.declared.Near.{Near}
 use Rattle.low_degree.proofs.Laws.{read, gain-fits}
 use borrow.Author.Tests.{eq-eqb, ne-eqb}

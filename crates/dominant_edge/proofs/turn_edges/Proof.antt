@@ -4,7 +4,7 @@ use Rattle.rules.specs.DominantEdge.{turn}
 use Rattle.rules.specs.Graph.{Graph, graph, neighbours, addLinear, addEdge}
 use Rattle.graph.specs.HeldLaws.{linear-gain, edge-gain}
 use Rattle.graph.specs.Near.{nearOf}
-use Rattle.graph.specs.Small.{Small, small-more, small-gain, small-gains}
+use Rattle.accepted.specs.Small.{Small, small-more, small-gain, small-gains}
 use Rattle.graph.specs.declared.Near.{Near}
 use Rattle.low_degree.proofs.Laws.{read, gain-fits}
 use borrow.Author.Tests.{eq-eqb, ne-eqb}

@@ -5,6 +5,7 @@ use mathlib.Core.List.{[], _∷_}
 use native.Mathlib.Omega.{arith}
 use lib.ListN.{length}
 use lib.Seq.{length-take-le}
+use lib.Pow.{pow-mono}
 use Rattle.rules.specs.Record.{nearOf, played}
 use Rattle.rules.specs.WriteText.{shown, listed, choicesOf, stepLine}
 use Rattle.write_text.specs.WriteLaws.{step-length}
@@ -41,7 +42,10 @@ put-requires-3 : tie.Need-put-requires-3
 put-requires-3 c κs = omega (arith, room (c .before .before .before .before .before .before .before .before .before .before .before .before .before .before .before))
 
 put-choices-requires : tie.Need-put-choices-requires
-put-choices-requires c κs = rw (count c) (omega (arith, room (c .before .before .before .before .before .before .before .before .before .before .before .before .before .before .before .before .before .before)))
+put-choices-requires c κs =
+    let s = c .before .before .before .before .before .before .before .before .before .before .before .before .before .before .before .before .before .before in
+    let few : length (nearOf (s .args .s)) ≤ 3 = omega (arith, near-length s, s .pre .0) in
+    rw (count c) (pow-mono {j = 3} few, omega (arith, room s))
 
 element-write-out : tie.Need-element-write-out
 element-write-out c = omega (arith, room (c .before .before .before .before .before .before .before .before .before .before .before .before .before .before .before .before .before .before .before), rw (count (c .before)) at (c .put-choices .ensures .place))

@@ -1,6 +1,6 @@
 use Rattle.whole.specs.Ints.{ints, zarith, rd, fit-hi, fit-lo, abs-step}
-use Rattle.write_text.proofs.magnitude.Statement.{statement}
-use Rattle.write_text.proofs.magnitude.Tie as tie
+use Rattle.signed.proofs.magnitude.Statement.{statement}
+use Rattle.signed.proofs.magnitude.Tie as tie
 
 add-m : tie.Need-add-m
 add-m c = simp ints (omega (zarith, fit-hi (c .before .fits .x), fit-lo (c .before .fits .x)))

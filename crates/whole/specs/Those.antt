@@ -1,0 +1,64 @@
+-- Loops over a range of numbers, and those of it that pass a test: one turn more, of what is left and of what has been gone through.
+-- Assumes nothing.
+use mathlib.Core.Path.{_≡_, refl, _∙_}
+use mathlib.Core.Bool.{Bool, true, false, cond}
+use mathlib.Core.List.{List, [], _∷_, _++_, append-nil}
+use Prim.Native.Nat.{ℕ, zero, suc, _+_, _-_, _<_, _≤_}
+use native.Mathlib.Numerals.{add-one}
+use native.Mathlib.Omega.{arith}
+use lib.ListN.{length}
+use Rattle.whole.specs.Words.{from, upto, those}
+use Rattle.whole.specs.Pigeon.{pigeon}
+use Rattle.whole.specs.Members.{apart-those, apart-upto}
+
+-- ---- what is left
+pub from-more : (i n : ℕ) → i < n → from i (n - i) ≡ i ∷ from (i + 1) (n - (i + 1))
+unfolding from
+from-more i n h = let e : n - i ≡ suc (n - (i + 1)) = omega arith in rw (e, add-one)
+
+pub from-end : (i n : ℕ) → n ≤ i → from i (n - i) ≡ []
+unfolding from
+from-end i n h = let e : n - i ≡ 0 = omega arith in rw e
+
+module _ (p : ℕ → Bool) (n i : ℕ) where
+  pub rest-more : i < n → p i ≡ true → those p (from i (n - i)) ≡ i ∷ those p (from (i + 1) (n - (i + 1)))
+  unfolding those
+  rest-more h e = rw (from-more i n h, e)
+
+  pub rest-same : i < n → p i ≡ false → those p (from i (n - i)) ≡ those p (from (i + 1) (n - (i + 1)))
+  unfolding those
+  rest-same h e = rw (from-more i n h, e)
+
+  pub rest-end : n ≤ i → those p (from i (n - i)) ≡ []
+  unfolding those
+  rest-end h = rw (from-end i n h)
+
+-- ---- what has been gone through
+from-last : (k c : ℕ) → from k (suc c) ≡ from k c ++ ((k + c) ∷ [])
+unfolding from
+from-last k zero = let e : k + 0 ≡ k = omega arith in rw e
+from-last k (suc c) = let e : k + suc c ≡ suc k + c = omega arith in rw (e, ← from-last (suc k) c)
+
+module _ (p : ℕ → Bool) where
+  kept : (t : Bool) (x : ℕ) (xs ys : List ℕ) → cond t (x ∷ (xs ++ ys)) (xs ++ ys) ≡ cond t (x ∷ xs) xs ++ ys
+  kept true x xs ys = refl
+  kept false x xs ys = refl
+
+  those-append : (xs ys : List ℕ) → those p (xs ++ ys) ≡ those p xs ++ those p ys
+  unfolding those
+  those-append [] ys = refl
+  those-append (x ∷ xs) ys = rw (those-append xs ys) (kept (p x) x (those p xs) (those p ys))
+
+  those-last : (k : ℕ) → those p (upto (k + 1)) ≡ those p (upto k) ++ those p (k ∷ [])
+  those-last k = rw (add-one, from-last 0 k, those-append (from 0 k)) (let e : 0 + k ≡ k = omega arith in rw e)
+
+  pub those-more : (k : ℕ) → p k ≡ true → those p (upto (k + 1)) ≡ those p (upto k) ++ (k ∷ [])
+  unfolding those
+  those-more k h = those-last k ∙ rw h
+
+  pub those-same : (k : ℕ) → p k ≡ false → those p (upto (k + 1)) ≡ those p (upto k)
+  unfolding those
+  those-same k h = those-last k ∙ rw (h, append-nil)
+
+  pub those-most : (n : ℕ) → length (those p (upto n)) ≤ n
+  those-most n = pigeon n (apart-those p (apart-upto n))
