@@ -70,6 +70,11 @@ module _ {g : Graph} {order : List ℕ} {count : ℕ} (w : Eliminable g order co
     out-low k =
         subst (λ (xs : List ℕ). getD xs k 0 < 64) (sym out-is) (low-at (g .n) (boundary g (take count order)) k (boundary-apart g (take count order)) (w .few))
 
+    -- a decision of the boundary is one of the graph's
+    out-inside : (k : ℕ) → k < width → getD (take width out) k 0 < g .n
+    out-inside k l =
+        subst (λ (xs : List ℕ). getD xs k 0 < g .n) (sym out-is) (apart-at (g .n) (boundary g (take count order)) k (boundary-apart g (take count order)) (omega (arith, width-is)))
+
     pub out-listed : Listed out width
     out-listed = record { long = o .long; few = omega (arith, out-narrow); low = λ k l. omega (arith, getD-take width out k 0 l, out-low k) }
 
@@ -99,6 +104,9 @@ module _ {g : Graph} {order : List ℕ} {count : ℕ} {out : List ℕ} {width fi
     first = ap (λ (xs : List ℕ). getD xs 0 0) (near-is ∙ sym (out-is (w .block) (w .outside))) ∙ sym (w .one);
     second = ap (λ (xs : List ℕ). getD xs 1 0) (near-is ∙ sym (out-is (w .block) (w .outside))) ∙ sym (w .two);
   }
+
+  pub out-both : width ≡ 2 → (first < g .n) × (second < g .n)
+  out-both e = (omega (arith, w .one, out-inside (w .block) (w .outside) 0 (omega arith)), omega (arith, w .two, out-inside (w .block) (w .outside) 1 (omega arith)))
 
   best-are : (masks ≡ tab (bestMask g (take count order)) (2 ^ width) ++ drop (2 ^ width) (replicate 4 0)) × (table ≡ tab (blockTable g (take count order)) (2 ^ width) ++ drop (2 ^ width) (replicate 8 (pos 0)))
   best-are = lowest-are g b (take width out) count (2 ^ width) masks table (out-is (w .block) (w .outside)) (members-size (w .block)) (w .lowest)

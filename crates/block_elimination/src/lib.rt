@@ -9,6 +9,7 @@ ghost use Rattle.rules.specs.Record.{hold};
 ghost use Rattle.rules.specs.Size.{Within};
 ghost use Rattle.rules.specs.SmallBlock.{inner, dropAll, eliminateBlock, blockSteps};
 ghost use Rattle.graph.specs.Held.{held};
+ghost use Rattle.graph.specs.Shows.{Shows};
 ghost use Rattle.steps.specs.Kept.{Kept};
 ghost use Rattle.block_minima.specs.Weights.{weights, Listed};
 ghost use Rattle.block_elimination.specs.Block.{Lowest, Beside, nearOf, memberStep, Eliminable};
@@ -137,18 +138,20 @@ pub fn block_steps(
 pub fn drop_all(
     lin: &mut [i64; 64],
     edges: &mut [i64; 4096],
+    masks: &mut [u64; 64],
     f: Frame,
     order: &[usize; 64],
     count: usize,
 ) -> Frame
-    requires { ⌜ Listed (now order) count × (f .n ≤ 64) ⌝ }
-    ensures { λ r. ⌜ held r (now (lin .exit)) (now (edges .exit)) ≡ dropAll (take count (now (order .entry))) (held f (now (lin .entry)) (now (edges .entry))) ⌝ }
+    requires { ⌜ Listed (now order) count × (f .n ≤ 64) × Shows (f .n) (now edges) (now masks) ⌝ }
+    ensures { λ r. ⌜ (held r (now (lin .exit)) (now (edges .exit)) ≡ dropAll (take count (now (order .entry))) (held f (now (lin .entry)) (now (edges .entry))))
+        × Shows (f .n) (now (edges .exit)) (now (masks .exit)) ⌝ }
 {
     let mut g = f;
     let mut k: usize = 0;
     while k < count {
         let i = order[k];
-        let left = graph::drop_to(&mut *lin, &mut *edges, g, 3, i);
+        let left = graph::drop_to(&mut *lin, &mut *edges, &mut *masks, g, 3, i);
         g = left;
         k = k + 1;
     }
@@ -170,13 +173,15 @@ fn place(list: &[usize; 64], count: usize, k: usize) -> usize
 pub fn eliminate_block(
     lin: &mut [i64; 64],
     edges: &mut [i64; 4096],
+    masks: &mut [u64; 64],
     f: Frame,
     order: &[usize; 64],
     count: usize,
     steps: Steps,
 ) -> Blocked
-    requires { ⌜ Eliminable (held f (now lin) (now edges)) (now order) count × (steps .count + count ≤ 64) ⌝ }
+    requires { ⌜ Eliminable (held f (now lin) (now edges)) (now order) count × (steps .count + count ≤ 64) × Shows (f .n) (now edges) (now masks) ⌝ }
     ensures { λ r. ⌜ (held (r .frame) (now (lin .exit)) (now (edges .exit)) ≡ eliminateBlock (take count (now (order .entry))) (held f (now (lin .entry)) (now (edges .entry))))
+        × Shows (f .n) (now (edges .exit)) (now (masks .exit))
         × ((ss : List rule.Step) → Kept steps ss → Kept (r .steps) (ss ++ blockSteps (held f (now (lin .entry)) (now (edges .entry))) (take count (now (order .entry))) 0 (take count (now (order .entry))))) ⌝ }
 {
     let n = f.n;
@@ -190,11 +195,20 @@ pub fn eliminate_block(
         second: second,
         width: width,
     };
-    let masks = best.masks;
-    let grown = block_steps(order, count, outside, &masks, steps);
-    let dropped = drop_all(&mut *lin, &mut *edges, f, order, count);
+    let winners = best.masks;
+    let grown = block_steps(order, count, outside, &winners, steps);
+    let dropped = drop_all(&mut *lin, &mut *edges, &mut *masks, f, order, count);
     let table = best.table;
-    let left = low_degree::absorb(&mut *lin, &mut *edges, dropped, table, width, first, second);
+    let left = low_degree::absorb(
+        &mut *lin,
+        &mut *edges,
+        &mut *masks,
+        dropped,
+        table,
+        width,
+        first,
+        second,
+    );
     Blocked {
         frame: left,
         steps: grown,

@@ -15,8 +15,12 @@ use Rattle.graph.specs.Held.{held}
 use Rattle.small_block.specs.Held.{blockBy}
 use Rattle.small_block.specs.declared.Growth.{Growth}
 use Rattle.block_elimination.specs.Block.{Eliminable}
-use Rattle.state.specs.Holds.{Holds}
+use Rattle.graph.specs.Shows.{Shows}
+use Rattle.steps.specs.Kept.{Kept}
+use Rattle.steps.specs.declared.Steps.{Steps}
+use Rattle.state.specs.Holds.{Lent, graphIn, Holds}
 use Rattle.state.specs.declared.State.{State}
+use Rattle.block_turn.specs.declared.Gone.{Gone}
 
 -- its edges join decisions both ways round and none with itself
 pub record Searchable (s : State) (e : List ℤ) : Type 0 where
@@ -29,10 +33,12 @@ pub record Searches (r : Growth) (s : State) (e : List ℤ) (sw : ℕ) : Type 0 
   pub long : length (r .order) ≡ 64
   pub is : (l : List ℤ) → blockBy (r .order) (r .count) ≡ cond (smallBlock sw) (findBlock (held (s .frame) l e)) none
 
-pub record Takeable (s : State) (l e : List ℤ) (order : List ℕ) (count : ℕ) : Type 0 where
-  pub block : Eliminable (held (s .frame) l e) order count
+pub record Takeable (s : State) (w : Lent) (before : Steps) (order : List ℕ) (count : ℕ) : Type 0 where
+  pub block : Eliminable (graphIn s w) order count
+  pub shown : Shows (s .frame .n) (w .edges) (w .masks)
+  pub ring : length (w .ring) ≡ 64
   pub eight : count ≤ 8
-  pub room : s .steps .count + count ≤ 64
+  pub room : before .count + count ≤ 64
   pub members : s .tally .«in_blocks» ≤ 64
   pub eliminated : s .tally .eliminated ≤ 64
   pub three : s .tally .three ≤ 64
@@ -41,5 +47,7 @@ pub record Takeable (s : State) (l e : List ℤ) (order : List ℕ) (count : ℕ
   pub skipped : s .tally .skipped < 4294967295
   pub blocks : s .blocks < 4294967295
 
-abbrev pub Blocks : State → List ℤ → List ℤ → List ℕ → ℕ → State → List ℤ → List ℤ → Type 0
-Blocks s l e b sw r l′ e′ = (S : run.State) → Holds S s l e → Holds (run.blocked sw b S) r l′ e′
+abbrev pub Blocks : State → Lent → Steps → List ℕ → ℕ → Gone → Lent → Type 0
+Blocks s w before b sw r w′ =
+    (S : run.State) → Holds S s w → Kept before (S .steps)
+    → Holds (run.blocked sw b S) (r .state) w′ × Kept (r .steps) (run.blocked sw b S .steps)

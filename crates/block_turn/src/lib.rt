@@ -6,10 +6,18 @@ ghost use lib.ListN.{length, take};
 ghost use lib.IntN.{ℤ};
 ghost use Rattle.rules.specs.Run.{blocked};
 ghost use Rattle.graph.specs.Held.{held};
+ghost use Rattle.state.specs.Holds.{lent};
 ghost use Rattle.block_turn.specs.Blocks.{Searchable, Searches, Takeable, Blocks};
 use small_block::Growth;
 use state::State;
 use state::Tally;
+use steps::Steps;
+
+// A state after a block has gone, and the steps with its members' own.
+pub struct Gone {
+    pub state: State,
+    pub steps: Steps,
+}
 
 // The block that is due, if small block is on and there is one; its members are none where there is not.
 pub fn due_block(edges: &[i64; 4096], s: State, switches: u32) -> Growth
@@ -32,28 +40,32 @@ pub fn due_block(edges: &[i64; 4096], s: State, switches: u32) -> Growth
 pub fn take_block(
     lin: &mut [i64; 64],
     edges: &mut [i64; 4096],
+    masks: &mut [u64; 64],
+    ring: &mut [u8; 64],
     s: State,
+    before: Steps,
     found: Growth,
     switches: u32,
-) -> State
-    requires { ⌜ Takeable s (now lin) (now edges) (found .order) (found .count) ⌝ }
-    ensures { λ r. ⌜ Blocks s (now (lin .entry)) (now (edges .entry)) (take (found .count) (found .order)) switches r (now (lin .exit)) (now (edges .exit)) ⌝ }
+) -> Gone
+    requires { ⌜ Takeable s (lent (now lin) (now edges) (now masks) (now ring)) before (found .order) (found .count) ⌝ }
+    ensures { λ r. ⌜ Blocks s (lent (now (lin .entry)) (now (edges .entry)) (now (masks .entry)) (now (ring .entry))) before (take (found .count) (found .order)) switches r (lent (now (lin .exit)) (now (edges .exit)) (now (masks .exit)) (now (ring .exit))) ⌝ }
 {
     let order = found.order;
     let count = found.count;
     let done = block_elimination::eliminate_block(
         &mut *lin,
         &mut *edges,
+        &mut *masks,
         s.frame,
         &order,
         count,
-        s.steps,
+        before,
     );
     let frame = done.frame;
     let steps = done.steps;
     let n = frame.n;
     let states = frame.states;
-    let queue = waiting::first_queue(&*edges, &states, n, switches);
+    let queue = waiting::first_queue(&*edges, &mut *ring, &states, n, switches);
     let members = Tally {
         eliminated: 0,
         three: 0,
@@ -63,12 +75,15 @@ pub fn take_block(
         in_blocks: count as u32,
     };
     let tally = state::more(s.tally, members);
-    State {
+    let next = State {
         frame: frame,
         queue: queue,
-        steps: steps,
         tally: tally,
         takes: s.takes,
         blocks: s.blocks + 1,
+    };
+    Gone {
+        state: next,
+        steps: steps,
     }
 }

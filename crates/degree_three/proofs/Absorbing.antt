@@ -45,10 +45,10 @@ unfolding absorb3 addConstant addLinear
 absorb-made e near f g l l₁ l₂ l₃ d d₁ h p q r s =
     ap (λ (x : Frame). held x l₃ d₁) h ∙ s (f .n) (f .constant +ℤ e 0) l₃ (f .states) ∙ ap (addPairs e near pairs) (rw (r, q, p))
 
-absorb-same : (e u : ℕ → ℤ) (near js : List ℕ) (g : Graph) → ((m : ℕ) → m < 8 → e m ≡ u m) → ((k : ℕ) → getD near k 0 ≡ getD js k 0) → absorb3 e near g ≡ absorb3 u js g
+absorb-same : (e u : ℕ → ℤ) (near js : List ℕ) (g : Graph) → ((m : ℕ) → m < 8 → e m ≡ u m) → ((k : ℕ) → k < 3 → getD near k 0 ≡ getD js k 0) → absorb3 e near g ≡ absorb3 u js g
 unfolding absorb3 addPairs
 absorb-same e u near js g h n =
-    rw (h 0 (omega arith), h 1 (omega arith), h 2 (omega arith), h 3 (omega arith), h 4 (omega arith), h 5 (omega arith), h 6 (omega arith), n 0, n 1, n 2)
+    rw (h 0 (omega arith), h 1 (omega arith), h 2 (omega arith), h 3 (omega arith), h 4 (omega arith), h 5 (omega arith), h 6 (omega arith), n 0 (omega arith), n 1 (omega arith), n 2 (omega arith))
 
 module _ (g : Graph) (i : ℕ) (near : Near) (is : near ≡ nearOf g i) where
   pub eliminated : (d r : Graph) (e : List ℤ) → e ≡ tab (moebius (tee g i)) 8 → d ≡ dropTo 3 i g → r ≡ absorb3 (λ m. getD e m (pos 0)) (near .list) d → r ≡ eliminate3 i g

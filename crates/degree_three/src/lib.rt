@@ -12,6 +12,7 @@ ghost use Rattle.rules.specs.Record.{hold, noStep};
 ghost use Rattle.rules.specs.Size.{Within};
 ghost use Rattle.graph.specs.Held.{held, DoesEdges};
 ghost use Rattle.graph.specs.Near.{nearOf};
+ghost use Rattle.graph.specs.Shows.{Shows};
 ghost use Rattle.accepted.specs.Small.{Small};
 ghost use Rattle.degree_three.specs.Pairs.{pairAt};
 
@@ -75,9 +76,15 @@ pub fn moebius(t: [i64; 8]) -> [i64; 8]
 }
 
 // Each pair's edge gains its entry.
-pub fn add_pairs(edges: &mut [i64; 4096], near: graph::Near, entries: [i64; 8])
+pub fn add_pairs(
+    edges: &mut [i64; 4096],
+    masks: &mut [u64; 64],
+    near: graph::Near,
+    entries: [i64; 8],
+)
     requires { ⌜ ((k : ℕ) → getD (near .list) k 0 < 64) × Small (2 ^ 50) (now edges) × Small (2 ^ 54) entries ⌝ }
-    ensures { λ _. ⌜ DoesEdges (addPairs (λ m. getD entries m (pos 0)) (near .list) pairs) (now (edges .entry)) (now (edges .exit)) ⌝ }
+    ensures { λ _. ⌜ DoesEdges (addPairs (λ m. getD entries m (pos 0)) (near .list) pairs) (now (edges .entry)) (now (edges .exit))
+        × ((n : ℕ) → ((k : ℕ) → k < 3 → getD (near .list) k 0 < n) → Shows n (now (edges .entry)) (now (masks .entry)) → Shows n (now (edges .exit)) (now (masks .exit))) ⌝ }
 {
     let list = near.list;
     let mut p: usize = 0;
@@ -89,7 +96,7 @@ pub fn add_pairs(edges: &mut [i64; 4096], near: graph::Near, entries: [i64; 8])
         let j = list[low] as usize;
         let k = list[high] as usize;
         let v = entries[mask];
-        graph::add_edge(&mut *edges, j, k, v);
+        graph::add_edge(&mut *edges, &mut *masks, j, k, v);
         p = p + 1;
     }
 }
@@ -98,12 +105,14 @@ pub fn add_pairs(edges: &mut [i64; 4096], near: graph::Near, entries: [i64; 8])
 pub fn absorb_three(
     lin: &mut [i64; 64],
     edges: &mut [i64; 4096],
+    masks: &mut [u64; 64],
     f: graph::Frame,
     near: graph::Near,
     entries: [i64; 8],
 ) -> graph::Frame
     requires { ⌜ ((k : ℕ) → getD (near .list) k 0 < 64) × (∣ f .constant ∣ ≤ 2 ^ 50) × Small (2 ^ 50) (now lin) × Small (2 ^ 50) (now edges) × Small (2 ^ 54) entries ⌝ }
-    ensures { λ r. ⌜ held r (now (lin .exit)) (now (edges .exit)) ≡ absorb3 (λ m. getD entries m (pos 0)) (near .list) (held f (now (lin .entry)) (now (edges .entry))) ⌝ }
+    ensures { λ r. ⌜ (held r (now (lin .exit)) (now (edges .exit)) ≡ absorb3 (λ m. getD entries m (pos 0)) (near .list) (held f (now (lin .entry)) (now (edges .entry))))
+        × ((n : ℕ) → ((k : ℕ) → k < 3 → getD (near .list) k 0 < n) → Shows n (now (edges .entry)) (now (masks .entry)) → Shows n (now (edges .exit)) (now (masks .exit))) ⌝ }
 {
     let list = near.list;
     let j = list[0] as usize;
@@ -117,7 +126,7 @@ pub fn absorb_three(
     graph::add_linear(&mut *lin, j, e1);
     graph::add_linear(&mut *lin, k, e2);
     graph::add_linear(&mut *lin, l, e4);
-    add_pairs(&mut *edges, near, entries);
+    add_pairs(&mut *edges, &mut *masks, near, entries);
     g
 }
 
@@ -125,13 +134,15 @@ pub fn absorb_three(
 pub fn eliminate_three(
     lin: &mut [i64; 64],
     edges: &mut [i64; 4096],
+    masks: &mut [u64; 64],
     f: graph::Frame,
     near: graph::Near,
     i: usize,
 ) -> Tried
-    requires { ⌜ (i < 64) × (f .n ≤ 64) × Within (held f (now lin) (now edges)) × (near ≡ nearOf (held f (now lin) (now edges)) i) × (near .count ≡ 3) ⌝ }
+    requires { ⌜ (i < 64) × (f .n ≤ 64) × Within (held f (now lin) (now edges)) × (near ≡ nearOf (held f (now lin) (now edges)) i) × (near .count ≡ 3) × Shows (f .n) (now edges) (now masks) ⌝ }
     ensures { λ r. ⌜ (r .cubic ≡ cubic (held f (now (lin .entry)) (now (edges .entry))) i)
         × (held (r .frame) (now (lin .exit)) (now (edges .exit)) ≡ cond (cubic (held f (now (lin .entry)) (now (edges .entry))) i) (held f (now (lin .entry)) (now (edges .entry))) (eliminate3 i (held f (now (lin .entry)) (now (edges .entry)))))
+        × Shows (f .n) (now (edges .exit)) (now (masks .exit))
         × (r .step ≡ cond (cubic (held f (now (lin .entry)) (now (edges .entry))) i) noStep (hold (stepOf (held f (now (lin .entry)) (now (edges .entry))) i))) ⌝ }
 {
     let a = lin[i];
@@ -156,8 +167,8 @@ pub fn eliminate_three(
         };
     }
     let step = low_degree::step_of(i, near, d);
-    let dropped = graph::drop_to(&mut *lin, &mut *edges, f, 3, i);
-    let left = absorb_three(&mut *lin, &mut *edges, dropped, near, e);
+    let dropped = graph::drop_to(&mut *lin, &mut *edges, &mut *masks, f, 3, i);
+    let left = absorb_three(&mut *lin, &mut *edges, &mut *masks, dropped, near, e);
     Tried {
         cubic: false,
         frame: left,

@@ -1,13 +1,14 @@
 -- The search for the dominant neighbour, turn by turn.
 use mathlib.Core.Path.{_≡_, refl, sym, ap, _∙_, subst}
 use mathlib.Core.Bool.{Bool, true, false, cond, _&&_, _||_}
-use mathlib.Core.List.{List}
-use Prim.Native.Nat.{ℕ, _+_, _^_, _<_, _≤_}
+use mathlib.Core.List.{List, map}
+use mathlib.Core.Logic.{_≢_}
+use Prim.Native.Nat.{ℕ, _+_, _*_, _-_, _^_, _<_, _≤_}
 use native.Mathlib.Omega.{arith}
-use native.Mathlib.Numerals.{add-one}
 use lib.Dec.{eqb}
-use lib.ListN.{length, getD, drop, drop-of-length-le}
-use lib.Seq.{drop-cons}
+use lib.ListN.{getD}
+use lib.Bits.{bitAnd}
+use lib.Count.{trailingZeros}
 use lib.IntN.{ℤ, pos, negsuc, _+ℤ_, _-ℤ_}
 use lib.Signed.{ltZ, leZ}
 use mir.Syntax.{w64}
@@ -17,10 +18,12 @@ use Rattle.whole.specs.Parts.{∣_∣}
 use Rattle.whole.specs.Ints.{ints, fit-lo, rd}
 use Rattle.whole.specs.Cmp.{lt-ind, below0-abs}
 use Rattle.whole.specs.Words.{isZeroZ, below0, above0}
+use Rattle.whole.specs.Masks.{these}
 use Rattle.rules.specs.Graph.{Graph, edge}
-use Rattle.rules.specs.DominantEdge.{nothing, at, negatives, positives, lo, hi, dominates, weak, first, dominant}
+use Rattle.rules.specs.DominantEdge.{nothing, at, negatives, positives, lo, hi, dominates, weak, first}
 use Rattle.low_degree.proofs.Laws.{fit, sum-fits, read-below}
 use Rattle.dominant_edge.specs.Answer.{verdictOf, testOf}
+use Rattle.dominant_edge.proofs.Taking.{parts, ended}
 
 -- a test for 0, of the bits
 pub zero-test : (z : ℤ) → SFits w64 z → eqb (ofZ w64 z) 0 ≡ isZeroZ z
@@ -31,36 +34,42 @@ zero-test (negsuc n) f = ne-eqb (ofZ w64 (negsuc n)) 0 (λ e. omega (arith, fit-
 pub above-is : (w : ℤ) → w -ℤ below0 w ≡ above0 w
 above-is w = lt-ind w (pos 0) (λ t. w -ℤ cond t w (pos 0) ≡ cond t (pos 0) w) (λ e. simp ints (omega arith)) (λ e. simp ints (omega arith))
 
-module _ (ws : List ℤ) (k : ℕ) where
-  pub negatives-turn : k < length ws → negatives (drop k ws) ≡ below0 (getD ws k (pos 0)) +ℤ negatives (drop (k + 1) ws)
+-- i's edges to the decisions of a list
+abbrev pub edgesTo : List ℤ → ℕ → List ℕ → List ℤ
+edgesTo e i js = map (λ j. getD e (64 * i + j) (pos 0)) js
+
+module _ (e : List ℤ) (i m : ℕ) where
+  pub negatives-turn : m ≢ 0 → m < 2 ^ 64 → negatives (edgesTo e i (these m)) ≡ below0 (getD e (64 * i + trailingZeros 64 m) (pos 0)) +ℤ negatives (edgesTo e i (these (bitAnd m (m - 1))))
   unfolding negatives
-  negatives-turn h = rw (add-one, drop-cons ws k (pos 0) h)
+  negatives-turn d h = ap (λ (js : List ℕ). negatives (edgesTo e i js)) (parts m d h)
 
-  pub positives-turn : k < length ws → positives (drop k ws) ≡ above0 (getD ws k (pos 0)) +ℤ positives (drop (k + 1) ws)
+  pub positives-turn : m ≢ 0 → m < 2 ^ 64 → positives (edgesTo e i (these m)) ≡ above0 (getD e (64 * i + trailingZeros 64 m) (pos 0)) +ℤ positives (edgesTo e i (these (bitAnd m (m - 1))))
   unfolding positives
-  positives-turn h = rw (add-one, drop-cons ws k (pos 0) h)
+  positives-turn d h = ap (λ (js : List ℕ). positives (edgesTo e i js)) (parts m d h)
 
-  pub negatives-end : length ws ≤ k → negatives (drop k ws) ≡ pos 0
+  pub negatives-end : m ≡ 0 → negatives (edgesTo e i (these m)) ≡ pos 0
   unfolding negatives
-  negatives-end h = rw (drop-of-length-le ws h)
+  negatives-end z = ap (λ (js : List ℕ). negatives (edgesTo e i js)) (ended m z)
 
-  pub positives-end : length ws ≤ k → positives (drop k ws) ≡ pos 0
+  pub positives-end : m ≡ 0 → positives (edgesTo e i (these m)) ≡ pos 0
   unfolding positives
-  positives-end h = rw (drop-of-length-le ws h)
+  positives-end z = ap (λ (js : List ℕ). positives (edgesTo e i js)) (ended m z)
 
 -- ---- the first that passes
-module _ (p : ℕ → Bool) (js : List ℕ) (k : ℕ) where
-  pub first-passes : k < length js → p (getD js k 0) ≡ true → first p (drop k js) ≡ at (getD js k 0)
+module _ (p : ℕ → Bool) (m : ℕ) where
+  first-next : m ≢ 0 → m < 2 ^ 64 → (b : Bool) → p (trailingZeros 64 m) ≡ b → first p (these m) ≡ cond b (at (trailingZeros 64 m)) (first p (these (bitAnd m (m - 1))))
   unfolding first
-  first-passes h e = rw (drop-cons js k 0 h, e)
+  first-next d h b e = ap (first p) (parts m d h) ∙ ap (λ (c : Bool). cond c (at (trailingZeros 64 m)) (first p (these (bitAnd m (m - 1))))) e
 
-  pub first-fails : k < length js → p (getD js k 0) ≡ false → first p (drop k js) ≡ first p (drop (k + 1) js)
-  unfolding first
-  first-fails h e = rw (add-one, drop-cons js k 0 h, e)
+  pub first-passes : m ≢ 0 → m < 2 ^ 64 → p (trailingZeros 64 m) ≡ true → first p (these m) ≡ at (trailingZeros 64 m)
+  first-passes d h e = first-next d h true e
 
-  pub first-end : length js ≤ k → first p (drop k js) ≡ nothing
+  pub first-fails : m ≢ 0 → m < 2 ^ 64 → p (trailingZeros 64 m) ≡ false → first p (these m) ≡ first p (these (bitAnd m (m - 1)))
+  first-fails d h e = first-next d h false e
+
+  pub first-end : m ≡ 0 → first p (these m) ≡ nothing
   unfolding first
-  first-end h = rw (drop-of-length-le js h)
+  first-end z = ap (first p) (ended m z)
 
 -- the code's test of an edge is the rules' of a neighbour
 pub test-is : (g : Graph) (i j : ℕ) (l h w : ℤ) → l ≡ lo g i → h ≡ hi g i → w ≡ edge g i j

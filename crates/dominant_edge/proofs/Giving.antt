@@ -1,19 +1,25 @@
 -- The edges of a decision that has gone are given to another, turn by turn.
-use mathlib.Core.Path.{_≡_, refl, sym, ap, ap₂, _∙_}
+use mathlib.Core.Path.{_≡_, refl, sym, ap, _∙_, subst}
 use mathlib.Core.Bool.{Bool, true, false, cond}
-use mathlib.Core.List.{List, [], _∷_, map}
-use Prim.Native.Nat.{ℕ, zero, suc, _+_, _^_, _<_, _≤_}
+use mathlib.Core.List.{List, [], _∷_, _++_}
+use mathlib.Core.Logic.{_≢_}
+use Prim.Native.Nat.{ℕ, zero, suc, _+_, _*_, _-_, _^_, _<_, _≤_}
 use native.Mathlib.Omega.{arith}
-use native.Mathlib.Numerals.{add-one}
 use lib.Dec.{eqb}
-use lib.ListN.{length, getD, set, drop, drop-of-length-le}
-use lib.Seq.{drop-cons}
+use lib.Bits.{bitAnd}
+use lib.Count.{trailingZeros}
+use lib.ListN.{getD, set, replicate}
 use lib.IntN.{ℤ, pos, negℤ, _+ℤ_, _-ℤ_}
 use mir.Syntax.{w64}
 use mir.Val.{SFits, toZ, ofZ}
+use borrow.Author.Tests.{eq-eqb, ne-eqb}
 use Rattle.whole.specs.Parts.{∣_∣}
 use Rattle.whole.specs.Ints.{ints, rd}
-use Rattle.low_degree.proofs.Laws.{fit, read}
+use Rattle.whole.specs.Words.{mem, tab}
+use Rattle.whole.specs.Lists.{tab-at}
+use Rattle.whole.specs.Masks.{these, first-in}
+use Rattle.whole.specs.Members.{in-tail}
+use Rattle.low_degree.proofs.Laws.{fit, read, gain-fits}
 use Rattle.rules.specs.Graph.{Graph, lin, edge, neighbours, addConstant, addLinear, addEdge, dropTo}
 use Rattle.rules.specs.Eliminate.{step}
 use Rattle.rules.specs.Record.{hold}
@@ -21,53 +27,122 @@ use Rattle.rules.specs.declared.Step as held-step
 use Rattle.rules.specs.DominantEdge.{positive, turn, move, contract, contractStep}
 use Rattle.graph.specs.Held.{held, withConstant, Does, DoesEdges}
 use Rattle.graph.specs.HeldLaws.{linear-gain}
+use Rattle.graph.specs.NearLaws.{mem-inside}
+use Rattle.graph.specs.Shows.{Shows}
+use Rattle.accepted.specs.Small.{Small, small-more, small-gains, small-tab}
 use Rattle.graph.specs.declared.Frame.{Frame}
-use Rattle.graph.specs.Near.{nearOf}
-use Rattle.graph.specs.NearLaws.{near-count, near-list, near-weights}
-use Rattle.graph.specs.declared.Near.{Near}
+use Rattle.dominant_edge.specs.Answer.{Gone, Shown-on}
+use Rattle.dominant_edge.proofs.Taking.{turns, parts, low, left-fits, one-more}
 
-map-at : (f : ℕ → ℤ) (js : List ℕ) (k : ℕ) → k < length js → getD (map f js) k (pos 0) ≡ f (getD js k 0)
-map-at f [] k h = absurd (omega arith)
-map-at f (j ∷ js) zero h = refl
-map-at f (j ∷ js) (suc k) h = map-at f js k (omega arith)
+-- ---- the two walks over the decision's neighbours
+abbrev pub turned-by : ℕ → ℕ → ℤ → Graph → Graph
+turned-by j t w g = addEdge j t (negℤ w) (addLinear t w g)
 
--- a weight at hand is the edge to the neighbour at hand
-pub weight-is : (g : Graph) (i : ℕ) (near : Near) → near ≡ nearOf g i → (k : ℕ) → k < near .count → getD (near .weights) k (pos 0) ≡ edge g i (getD (neighbours g i) k 0)
-weight-is g i near is k h =
-    near-weights g i near is k ∙ map-at (λ j. edge g i j) (neighbours g i) k (omega (arith, near-count g i near is))
-
-module _ (old : Graph) (i j : ℕ) (near : Near) (is : near ≡ nearOf old i) (k : ℕ) (g r : Graph) where
-  abbrev js : List ℕ
-  js = neighbours old i
-
-  abbrev t : ℕ
-  t = getD (near .list) k 0
-
-  abbrev w : ℤ
-  w = getD (near .weights) k (pos 0)
-
-  -- what one turn does, as the rules say it
-  pub turn-next : k < near .count → r ≡ cond (eqb t j) g (addEdge j t (negℤ w) (addLinear t w g)) → turn old i j (drop k js) g ≡ turn old i j (drop (k + 1) js) r
+module _ (old : Graph) (i j : ℕ) where
+  pub turn-cons : (t : ℕ) (js : List ℕ) (g : Graph) → turn old i j (t ∷ js) g ≡ turn old i j js (cond (eqb t j) g (turned-by j t (edge old i t) g))
   unfolding turn
-  turn-next h e =
-      let l : k < length js = omega (arith, near-count old i near is) in
-      rw (add-one, drop-cons js k 0 l)
-      (ap (turn old i j (drop (suc k) js)) (sym (e ∙ ap₂ (λ (x : ℕ) (v : ℤ). cond (eqb x j) g (addEdge j x (negℤ v) (addLinear x v g))) (near-list old i near is k) (weight-is old i near is k h))))
+  turn-cons t js g = refl
 
-  pub move-next : k < near .count → r ≡ cond (eqb t j) g (addEdge j t w g) → move old i j (drop k js) g ≡ move old i j (drop (k + 1) js) r
+  pub move-cons : (t : ℕ) (js : List ℕ) (g : Graph) → move old i j (t ∷ js) g ≡ move old i j js (cond (eqb t j) g (addEdge j t (edge old i t) g))
   unfolding move
-  move-next h e =
-      let l : k < length js = omega (arith, near-count old i near is) in
-      rw (add-one, drop-cons js k 0 l)
-      (ap (move old i j (drop (suc k) js)) (sym (e ∙ ap₂ (λ (x : ℕ) (v : ℤ). cond (eqb x j) g (addEdge j x v g)) (near-list old i near is k) (weight-is old i near is k h))))
+  move-cons t js g = refl
 
-  pub turn-end : near .count ≤ k → turn old i j (drop k js) g ≡ g
+  pub turn-none : (js : List ℕ) (g : Graph) → js ≡ [] → turn old i j js g ≡ g
   unfolding turn
-  turn-end h = let l : length js ≤ k = omega (arith, near-count old i near is) in rw (drop-of-length-le js l)
+  turn-none js g e = ap (λ (ks : List ℕ). turn old i j ks g) e
 
-  pub move-end : near .count ≤ k → move old i j (drop k js) g ≡ g
+  pub move-none : (js : List ℕ) (g : Graph) → js ≡ [] → move old i j js g ≡ g
   unfolding move
-  move-end h = let l : length js ≤ k = omega (arith, near-count old i near is) in rw (drop-of-length-le js l)
+  move-none js g e = ap (λ (ks : List ℕ). move old i j ks g) e
+
+-- ---- what both keep: those left are of the mask, the edges are small, and the masks show them
+abbrev pub limit : ℕ → ℕ
+limit rest = 2 ^ 50 + turns rest * 2199023255552
+
+pub record Keeps (row : List ℤ) (m j rest : ℕ) (e₀ : List ℤ) (ms₀ : List ℕ) (e : List ℤ) (ms : List ℕ) : Type 0 where
+  pub below : j < 64
+  pub weights : Small 2199023255552 row
+  pub fits : rest < 2 ^ 64
+  pub among : (t : ℕ) → mem t (these rest) ≡ true → mem t (these m) ≡ true
+  pub small : Small (limit rest) e
+  pub shown : Shown-on m j e₀ ms₀ e ms
+
+pub keeps-begin : {row : List ℤ} {j : ℕ} (m : ℕ) (e : List ℤ) (ms : List ℕ) → j < 64 → Small 2199023255552 row → m < 2 ^ 64 → Small (2 ^ 50) e → Keeps row m j m e ms e ms
+keeps-begin m e ms b w h s = record {
+  below = b;
+  weights = w;
+  fits = h;
+  among = λ t q. q;
+  small = small-more (limit m) s (omega arith);
+  shown = λ n p q r. r;
+}
+
+-- a turn, at the lowest decision that is left
+module _ {row e₀ e : List ℤ} {m j rest : ℕ} {ms₀ ms : List ℕ} (k : Keeps row m j rest e₀ ms₀ e ms) (d : rest ≢ 0) where
+  abbrev pub at : ℕ
+  at = trailingZeros 64 rest
+
+  abbrev pub left : ℕ
+  left = bitAnd rest (rest - 1)
+
+  abbrev pub weight : ℤ
+  weight = getD row at (pos 0)
+
+  pub at-low : at < 64
+  at-low = low rest d (k .fits)
+
+  at-among : mem at (these m) ≡ true
+  at-among = k .among at (first-in rest d (k .fits))
+
+  pub weight-small : ∣ weight ∣ ≤ 2199023255552
+  weight-small = k .weights .each at
+
+  pub weight-read : toZ w64 (ofZ w64 weight) ≡ weight
+  weight-read = read weight (omega (arith, weight-small))
+
+  pub in-limit : limit rest ≤ 2 ^ 60
+  in-limit = omega arith
+
+  pub more : limit rest + 2199023255552 ≤ limit left
+  more = omega (arith, one-more rest d (k .fits))
+
+  pub edge-fits : (v : ℤ) → ∣ v ∣ ≤ 2199023255552 → (j < 64) × (at < 64) × SFits w64 (getD e (64 * j + at) (pos 0) +ℤ v) × SFits w64 (getD e (64 * at + j) (pos 0) +ℤ v)
+  edge-fits v h =
+      (k .below, at-low, gain-fits (64 * j + at) v (k .small) in-limit (omega arith), gain-fits (64 * at + j) v (k .small) in-limit (omega arith))
+
+  keeps : (e′ : List ℤ) (ms′ : List ℕ) → Small (limit left) e′ → ((n : ℕ) → j < n → at < n → Shows n e ms → Shows n e′ ms′) → Keeps row m j left e₀ ms₀ e′ ms′
+  keeps e′ ms′ s f = record {
+    below = k .below;
+    weights = k .weights;
+    fits = left-fits rest d (k .fits);
+    among = λ t q. k .among t (ap (mem t) (parts rest d (k .fits)) ∙ in-tail t at (these left) q);
+    small = s;
+    shown = λ n b q r. f n b (q at at-among) (k .shown n b q r);
+  }
+
+  pub keeps-same : Keeps row m j left e₀ ms₀ e ms
+  keeps-same = keeps e ms (small-more (limit left) (k .small) (omega (arith, more))) (λ n b q r. r)
+
+  pub keeps-gain : (v : ℤ) (e′ : List ℤ) (ms′ : List ℕ) → ∣ v ∣ ≤ 2199023255552
+      → e′ ≡ set (set e (64 * j + at) (getD e (64 * j + at) (pos 0) +ℤ v)) (64 * at + j) (getD e (64 * at + j) (pos 0) +ℤ v)
+      → ((n : ℕ) → j < n → at < n → Shows n e ms → Shows n e′ ms′) → Keeps row m j left e₀ ms₀ e′ ms′
+  keeps-gain v e′ ms′ h q f =
+      keeps e′ ms′ (subst (Small (limit left)) (sym q) (small-more (limit left) (small-gains (64 * j + at) (64 * at + j) v (k .small) h) more)) f
+
+  -- of a walk by which each but j gives, by `give`, the edge that i had to it
+  module _ {old : Graph} {i : ℕ} (gone : Gone row m old i) (walk : List ℕ → Graph → Graph) (give : ℕ → ℤ → Graph → Graph)
+      (cons : (t : ℕ) (js : List ℕ) (g : Graph) → walk (t ∷ js) g ≡ walk js (cond (eqb t j) g (give t (edge old i t) g))) (g : Graph) where
+    next : (b : Bool) → eqb at j ≡ b → walk (these rest) g ≡ walk (these left) (cond b g (give at (edge old i at) g))
+    next b q =
+        ap (λ (js : List ℕ). walk js g) (parts rest d (k .fits))
+        ∙ cons at (these left) g
+        ∙ ap (λ (c : Bool). walk (these left) (cond c g (give at (edge old i at) g))) q
+
+    pub gives : (r : Graph) → at ≢ j → give at weight g ≡ r → walk (these rest) g ≡ walk (these left) r
+    gives r n q = next false (ne-eqb at j n) ∙ ap (walk (these left)) (ap (λ (v : ℤ). give at v g) (sym (gone .weights at at-among)) ∙ q)
+
+    pub passes-by : at ≡ j → walk (these rest) g ≡ walk (these left) g
+    passes-by q = next true (eq-eqb at j q)
 
 pub minus-at-most : {b : ℕ} (w : ℤ) → ∣ w ∣ ≤ b → ∣ negℤ w ∣ ≤ b
 minus-at-most w h = simp ints (omega arith)
@@ -82,6 +157,30 @@ module _ (w : ℤ) (h : ∣ w ∣ ≤ 2 ^ 59) where
 
   pub minus : toZ w64 (ofZ w64 (pos 0 -ℤ toZ w64 (ofZ w64 w))) ≡ negℤ w
   minus = rd minus-fits ∙ minus-is
+
+-- ---- the row of the decision, copied before it goes
+pub mask-inside : (g : Graph) (i m t : ℕ) → these m ≡ neighbours g i → mem t (these m) ≡ true → t < g .n
+mask-inside g i m t s q = mem-inside g i t (ap (mem t) (sym s) ∙ q)
+
+padded : (xs : List ℤ) (c k : ℕ) → getD (xs ++ replicate c (pos 0)) k (pos 0) ≡ getD xs k (pos 0)
+padded [] zero k = refl
+padded [] (suc c) zero = refl
+padded [] (suc c) (suc k) = padded [] c k
+padded (x ∷ xs) c zero = refl
+padded (x ∷ xs) c (suc k) = padded xs c k
+
+module _ (g : Graph) (i c : ℕ) (row : List ℤ) (r : row ≡ tab (λ j. edge g i j) (g .n) ++ replicate c (pos 0)) where
+  row-at : (k : ℕ) → getD row k (pos 0) ≡ getD (tab (λ j. edge g i j) (g .n)) k (pos 0)
+  row-at k = ap (λ (x : List ℤ). getD x k (pos 0)) r ∙ padded (tab (λ j. edge g i j) (g .n)) c k
+
+  pub row-small : {b : ℕ} → ((k : ℕ) → ∣ getD (g .edges) k (pos 0) ∣ ≤ b) → Small b row
+  row-small {b} h = record { each = λ k. omega (arith, ap (λ (z : ℤ). ∣ z ∣) (row-at k), small-tab {b = b} (λ j. edge g i j) (g .n) (λ j. h (64 * i + j)) .each k) }
+
+  pub row-gone : (m : ℕ) → these m ≡ neighbours g i → Gone row m g i
+  row-gone m s = record {
+    around = s;
+    weights = λ t q. row-at t ∙ tab-at (λ j. edge g i j) (g .n) t (pos 0) (mask-inside g i m t s q);
+  }
 
 -- ---- the whole substitution, from what the code's parts give
 module _ (g : Graph) (i j : ℕ) (d : Frame) (l l₁ e : List ℤ) (h : held d l e ≡ dropTo 3 i g) where

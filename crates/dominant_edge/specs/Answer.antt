@@ -1,17 +1,18 @@
 -- What the code answers, in the rules' words.
 -- Assumes nothing.
 use mathlib.Core.Path.{_≡_}
-use mathlib.Core.Bool.{cond, _&&_, _||_}
+use mathlib.Core.Bool.{true, cond, _&&_, _||_}
 use mathlib.Core.List.{List}
-use Prim.Native.Nat.{ℕ}
+use Prim.Native.Nat.{ℕ, _<_}
+use lib.ListN.{getD}
 use lib.IntN.{ℤ, pos, _+ℤ_, _-ℤ_}
 use lib.Signed.{ltZ, leZ}
-use Rattle.whole.specs.Words.{isZeroZ}
-use Rattle.rules.specs.Graph.{Graph, lin, neighbours}
+use Rattle.whole.specs.Words.{isZeroZ, mem}
+use Rattle.whole.specs.Masks.{these}
+use Rattle.rules.specs.Graph.{Graph, lin, edge, neighbours}
 use Rattle.rules.specs.DominantEdge.{Found, nothing, at, lo, hi, weak, dominant, turn, move}
 use Rattle.graph.specs.Held.{Does, DoesEdges}
-use Rattle.graph.specs.Near.{nearOf}
-use Rattle.graph.specs.declared.Near.{Near}
+use Rattle.graph.specs.Shows.{Shows}
 use Rattle.dominant_edge.specs.declared.Bounds.{Bounds}
 use Rattle.dominant_edge.specs.declared.Test.{Test}
 use Rattle.dominant_edge.specs.declared.Dominant.{Dominant}
@@ -33,20 +34,30 @@ answerOf g i (at j) = Neighbour j (weak g i j)
 unfoldable pub dominantOf : Graph → ℕ → Dominant
 dominantOf g i = answerOf g i (dominant g i)
 
--- a decision i of weight a that has these neighbours, in whatever graph
-pub record Seen (a : ℤ) (near : Near) (g : Graph) (i : ℕ) : Type 0 where
+-- a decision i of weight a, whose neighbours are those of the mask m, in whatever graph has these edges
+pub record Seen (a : ℤ) (m i : ℕ) (e : List ℤ) (g : Graph) : Type 0 where
   pub weight : lin g i ≡ a
-  pub around : near ≡ nearOf g i
+  pub around : these m ≡ neighbours g i
+  pub edges : g .edges ≡ e
 
-abbrev pub Bounds-are : Bounds → ℤ → Near → Type 0
-Bounds-are r a near = (g : Graph) (i : ℕ) → Seen a near g i → (r .lo ≡ lo g i) × (r .hi ≡ hi g i)
+abbrev pub Bounds-are : Bounds → ℤ → ℕ → ℕ → List ℤ → Type 0
+Bounds-are r a m i e = (g : Graph) → Seen a m i e g → (r .lo ≡ lo g i) × (r .hi ≡ hi g i)
 
-abbrev pub Finds : Dominant → ℤ → Near → Type 0
-Finds r a near = (g : Graph) (i : ℕ) → Seen a near g i → r ≡ dominantOf g i
+abbrev pub Finds : Dominant → ℤ → ℕ → ℕ → List ℤ → Type 0
+Finds r a m i e = (g : Graph) → Seen a m i e g → r ≡ dominantOf g i
 
--- the edges of a decision that has gone are given to j
-abbrev pub Turns : Near → ℕ → List ℤ → List ℤ → List ℤ → List ℤ → Type 0
-Turns near j l e l′ e′ = (old : Graph) (i : ℕ) → near ≡ nearOf old i → Does (turn old i j (neighbours old i)) l e l′ e′
+-- what was near a decision i that has gone: those of the mask, with their edges in its row
+pub record Gone (row : List ℤ) (m : ℕ) (old : Graph) (i : ℕ) : Type 0 where
+  pub around : these m ≡ neighbours old i
+  pub weights : (t : ℕ) → mem t (these m) ≡ true → getD row t (pos 0) ≡ edge old i t
 
-abbrev pub Moves : Near → ℕ → List ℤ → List ℤ → Type 0
-Moves near j e e′ = (old : Graph) (i : ℕ) → near ≡ nearOf old i → DoesEdges (move old i j (neighbours old i)) e e′
+-- its edges are given to j
+abbrev pub Turns : List ℤ → ℕ → ℕ → List ℤ → List ℤ → List ℤ → List ℤ → Type 0
+Turns row m j l e l′ e′ = (old : Graph) (i : ℕ) → Gone row m old i → Does (turn old i j (neighbours old i)) l e l′ e′
+
+abbrev pub Moves : List ℤ → ℕ → ℕ → List ℤ → List ℤ → Type 0
+Moves row m j e e′ = (old : Graph) (i : ℕ) → Gone row m old i → DoesEdges (move old i j (neighbours old i)) e e′
+
+-- and the masks still show the edges
+abbrev pub Shown-on : ℕ → ℕ → List ℤ → List ℕ → List ℤ → List ℕ → Type 0
+Shown-on m j e ms e′ ms′ = (n : ℕ) → j < n → ((t : ℕ) → mem t (these m) ≡ true → t < n) → Shows n e ms → Shows n e′ ms′

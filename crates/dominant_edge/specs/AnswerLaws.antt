@@ -1,14 +1,15 @@
 -- What the answer says of the rules' search.
 -- Assumes nothing.
-use mathlib.Core.Path.{_≡_, refl}
+use mathlib.Core.Path.{_≡_, refl, subst}
 use mathlib.Core.Bool.{Bool, true, false, cond}
 use mathlib.Core.List.{List, [], _∷_}
-use Prim.Native.Nat.{ℕ, suc, _<_, _≤_}
+use Prim.Native.Nat.{ℕ, _<_}
 use native.Mathlib.Omega.{arith}
-use lib.ListN.{getD}
+use Rattle.whole.specs.Words.{mem}
+use Rattle.whole.specs.Members.{in-head, in-tail}
 use Rattle.rules.specs.Graph.{Graph, neighbours}
 use Rattle.rules.specs.DominantEdge.{Found, nothing, at, weak, dominates, first, dominant}
-use Rattle.graph.specs.NearLaws.{neighbour-below}
+use Rattle.graph.specs.NearLaws.{mem-inside}
 use Rattle.dominant_edge.specs.Answer.{answerOf, dominantOf}
 use Rattle.dominant_edge.specs.declared.Dominant.the-variants.{Nothing, Neighbour}
 
@@ -30,15 +31,15 @@ answer-at g i j w h = go (dominant g i) h
     go (at k) e = let s : k ≡ j = cc in (rw s, rw (← s) (cc))
 
 -- the neighbour that is found is a decision
-first-below : (p : ℕ → Bool) (js : List ℕ) (b j : ℕ) → ((k : ℕ) → getD js k 0 < b) → first p js ≡ at j → j < b
+first-among : (p : ℕ → Bool) (js : List ℕ) (j : ℕ) → first p js ≡ at j → mem j js ≡ true
 unfolding first
-first-below p [] b j h e = let z : _≡_ {A = ℕ} 0 1 = cc in absurd (omega arith)
-first-below p (x ∷ js) b j h e = go (p x) e (first-below p js b j (λ k. h (suc k)))
+first-among p [] j e = let z : _≡_ {A = ℕ} 0 1 = cc in absurd (omega arith)
+first-among p (x ∷ js) j e = go (p x) e (first-among p js j)
   where
-    go : (t : Bool) → cond t (at x) (first p js) ≡ at j → (first p js ≡ at j → j < b) → j < b
-    go true e r = let s : x ≡ j = cc in omega (arith, h 0)
-    go false e r = r e
+    go : (t : Bool) → cond t (at x) (first p js) ≡ at j → (first p js ≡ at j → mem j js ≡ true) → mem j (x ∷ js) ≡ true
+    go true e r = let s : x ≡ j = cc in subst (λ (k : ℕ). mem k (x ∷ js) ≡ true) s (in-head x js)
+    go false e r = in-tail j x js (r e)
 
-pub dominant-below : (g : Graph) (i j : ℕ) → g .n ≤ 64 → dominant g i ≡ at j → j < 64
+pub dominant-inside : (g : Graph) (i j : ℕ) → dominant g i ≡ at j → j < g .n
 unfolding dominant
-dominant-below g i j h e = first-below (dominates g i) (neighbours g i) 64 j (λ k. neighbour-below g i k h) e
+dominant-inside g i j e = mem-inside g i j (first-among (dominates g i) (neighbours g i) j e)

@@ -2,8 +2,7 @@
 ghost use mathlib.Core.Path.{_≡_};
 ghost use mathlib.Core.Bool.{_&&_, _||_};
 ghost use mathlib.Core.List.{[], _∷_};
-ghost use Prim.Native.Nat.{ℕ, _<_, _≤_, _^_};
-ghost use lib.ListN.{getD};
+ghost use Prim.Native.Nat.{_<_, _≤_, _^_};
 ghost use lib.IntN.{pos};
 ghost use lib.Signed.{leZ};
 ghost use Rattle.whole.specs.Parts.{∣_∣};
@@ -13,9 +12,11 @@ ghost use Rattle.rules.specs.DominantEdge.{contract as contracted, contractStep
 ghost use Rattle.rules.specs.Record.{hold};
 ghost use Rattle.rules.specs.Size.{Within};
 ghost use Rattle.graph.specs.Held.{held};
-ghost use Rattle.graph.specs.Near.{nearOf};
+ghost use Rattle.whole.specs.Masks.{these};
+ghost use Rattle.rules.specs.Graph.{neighbours};
+ghost use Rattle.graph.specs.Shows.{Shows};
 ghost use Rattle.accepted.specs.Small.{Small};
-ghost use Rattle.dominant_edge.specs.Answer.{verdictOf, testOf, Bounds-are, Finds, Turns, Moves};
+ghost use Rattle.dominant_edge.specs.Answer.{verdictOf, testOf, Bounds-are, Finds, Turns, Moves, Shown-on};
 
 // The least and the largest that a decision's delta can be.
 pub struct Bounds {
@@ -36,23 +37,22 @@ pub enum Dominant {
 
 // ---- finding it
 
-// lo is a plus the negative edges, hi is a plus the positive ones.
-pub fn bounds_of(a: i64, near: graph::Near) -> Bounds
-    requires { ⌜ (∣ a ∣ ≤ 1099511627776) × Small 2199023255552 (near .weights) × (near .count ≤ 64) ⌝ }
-    ensures { λ r. ⌜ Bounds-are r a near × (∣ r .lo ∣ ≤ 2 ^ 50) × (∣ r .hi ∣ ≤ 2 ^ 50) ⌝ }
+// Of a decision i of weight a, whose neighbours are those of the mask m: lo is a plus the negative edges, hi is a plus the positive ones.
+pub fn bounds_of(edges: &[i64; 4096], a: i64, m: u64, i: usize) -> Bounds
+    requires { ⌜ (i < 64) × (∣ a ∣ ≤ 1099511627776) × Small 2199023255552 (now edges) ⌝ }
+    ensures { λ r. ⌜ Bounds-are r a m i (now (edges .entry)) × (∣ r .lo ∣ ≤ 2 ^ 50) × (∣ r .hi ∣ ≤ 2 ^ 50) ⌝ }
 {
-    let count = near.count;
-    let weights = near.weights;
     let mut lo = a;
     let mut hi = a;
-    let mut k: usize = 0;
-    while k < count {
-        let w = weights[k];
+    let mut rest = m;
+    while rest != 0 {
+        let j = u64::trailing_zeros(rest) as usize;
+        let w = edges[64 * i + j];
         let below = low_degree::smaller(w);
         let above = w - below;
         lo = lo + below;
         hi = hi + above;
-        k = k + 1;
+        rest = rest & (rest - 1);
     }
     Bounds { lo: lo, hi: hi }
 }
@@ -90,68 +90,68 @@ pub fn test_edge(lo: i64, hi: i64, w: i64) -> Test
 }
 
 // Neighbours ascending, the first that passes.
-pub fn dominant_neighbour(a: i64, near: graph::Near) -> Dominant
-    requires { ⌜ (∣ a ∣ ≤ 1099511627776) × Small 2199023255552 (near .weights) × (near .count ≤ 64) × ((k : ℕ) → getD (near .list) k 0 < 64) ⌝ }
-    ensures { λ r. ⌜ Finds r a near ⌝ }
+pub fn dominant_neighbour(edges: &[i64; 4096], a: i64, m: u64, i: usize) -> Dominant
+    requires { ⌜ (i < 64) × (∣ a ∣ ≤ 1099511627776) × Small 2199023255552 (now edges) ⌝ }
+    ensures { λ r. ⌜ Finds r a m i (now (edges .entry)) ⌝ }
 {
-    let b = bounds_of(a, near);
+    let b = bounds_of(edges, a, m, i);
     let lo = b.lo;
     let hi = b.hi;
-    let count = near.count;
-    let list = near.list;
-    let weights = near.weights;
-    let mut k: usize = 0;
-    while k < count {
-        let w = weights[k];
+    let mut rest = m;
+    while rest != 0 {
+        let j = u64::trailing_zeros(rest) as usize;
+        let w = edges[64 * i + j];
         let t = test_edge(lo, hi, w);
         if t.passes {
-            let j = list[k] as usize;
             let weak = t.weak;
             return Dominant::Neighbour(j, weak);
         }
-        k = k + 1;
+        rest = rest & (rest - 1);
     }
     Dominant::Nothing
 }
 
 // ---- substituting
 
-// x of the decision becomes 1 − x of j: each other edge goes to its neighbour, and its negative to the edge of that neighbour and j.
-pub fn turn_edges(lin: &mut [i64; 64], edges: &mut [i64; 4096], near: graph::Near, j: usize)
-    requires { ⌜ (j < 64) × (near .count ≤ 64) × ((k : ℕ) → getD (near .list) k 0 < 64) × Small 2199023255552 (near .weights) × Small (2 ^ 50) (now lin) × Small (2 ^ 50) (now edges) ⌝ }
-    ensures { λ _. ⌜ Turns near j (now (lin .entry)) (now (edges .entry)) (now (lin .exit)) (now (edges .exit)) ⌝ }
+// x of the decision becomes 1 − x of j: each other edge of its row goes to its neighbour, and its negative to the edge of that neighbour and j.
+pub fn turn_edges(
+    lin: &mut [i64; 64],
+    edges: &mut [i64; 4096],
+    masks: &mut [u64; 64],
+    row: &[i64; 64],
+    m: u64,
+    j: usize,
+)
+    requires { ⌜ (j < 64) × Small 2199023255552 (now row) × Small (2 ^ 50) (now lin) × Small (2 ^ 50) (now edges) ⌝ }
+    ensures { λ _. ⌜ Turns (now (row .entry)) m j (now (lin .entry)) (now (edges .entry)) (now (lin .exit)) (now (edges .exit))
+        × Shown-on m j (now (edges .entry)) (now (masks .entry)) (now (edges .exit)) (now (masks .exit)) ⌝ }
 {
-    let count = near.count;
-    let list = near.list;
-    let weights = near.weights;
-    let mut k: usize = 0;
-    while k < count {
-        let t = list[k] as usize;
-        let w = weights[k];
+    let mut rest = m;
+    while rest != 0 {
+        let t = u64::trailing_zeros(rest) as usize;
+        let w = row[t];
         if t != j {
             graph::add_linear(&mut *lin, t, w);
-            graph::add_edge(&mut *edges, j, t, -w);
+            graph::add_edge(&mut *edges, &mut *masks, j, t, -w);
         }
-        k = k + 1;
+        rest = rest & (rest - 1);
     }
 }
 
-// x of the decision becomes x of j: each other edge goes to the edge of its neighbour and j.
-pub fn move_edges(edges: &mut [i64; 4096], near: graph::Near, j: usize)
-    requires { ⌜ (j < 64) × (near .count ≤ 64) × ((k : ℕ) → getD (near .list) k 0 < 64) × Small 2199023255552 (near .weights) × Small (2 ^ 50) (now edges) ⌝ }
-    ensures { λ _. ⌜ Moves near j (now (edges .entry)) (now (edges .exit)) ⌝ }
+// x of the decision becomes x of j: each other edge of its row goes to the edge of its neighbour and j.
+pub fn move_edges(edges: &mut [i64; 4096], masks: &mut [u64; 64], row: &[i64; 64], m: u64, j: usize)
+    requires { ⌜ (j < 64) × Small 2199023255552 (now row) × Small (2 ^ 50) (now edges) ⌝ }
+    ensures { λ _. ⌜ Moves (now (row .entry)) m j (now (edges .entry)) (now (edges .exit))
+        × Shown-on m j (now (edges .entry)) (now (masks .entry)) (now (edges .exit)) (now (masks .exit)) ⌝ }
 {
-    let count = near.count;
-    let list = near.list;
-    let weights = near.weights;
-    let mut k: usize = 0;
-    while k < count {
-        let t = list[k] as usize;
-        let w = weights[k];
+    let mut rest = m;
+    while rest != 0 {
+        let t = u64::trailing_zeros(rest) as usize;
+        let w = row[t];
         if t != j {
-            graph::add_edge(&mut *edges, j, t, w);
+            graph::add_edge(&mut *edges, &mut *masks, j, t, w);
         }
-        k = k + 1;
+        rest = rest & (rest - 1);
     }
 }
 
@@ -170,26 +170,30 @@ pub fn step_over(i: usize, j: usize, choices: u8) -> rules::Step
     }
 }
 
-// i leaves, tied to j.
+// i, whose neighbours are those of the mask m, leaves, tied to j.
 pub fn contract(
     lin: &mut [i64; 64],
     edges: &mut [i64; 4096],
+    masks: &mut [u64; 64],
     f: graph::Frame,
-    near: graph::Near,
+    m: u64,
     i: usize,
     j: usize,
 ) -> low_degree::Reduced
-    requires { ⌜ (i < 64) × (j < 64) × (f .n ≤ 64) × Within (held f (now lin) (now edges)) × (near ≡ nearOf (held f (now lin) (now edges)) i) ⌝ }
+    requires { ⌜ (i < 64) × (j < f .n) × (f .n ≤ 64) × Within (held f (now lin) (now edges)) × (these m ≡ neighbours (held f (now lin) (now edges)) i) × Shows (f .n) (now edges) (now masks) ⌝ }
     ensures { λ r. ⌜ (held (r .frame) (now (lin .exit)) (now (edges .exit)) ≡ contracted i j (held f (now (lin .entry)) (now (edges .entry))))
+        × Shows (f .n) (now (edges .exit)) (now (masks .exit))
         × (r .step ≡ hold (contractStep i j (held f (now (lin .entry)) (now (edges .entry))))) ⌝ }
 {
+    let n = f.n;
     let a = lin[i];
     let w = edges[64 * i + j];
-    let dropped = graph::drop_to(&mut *lin, &mut *edges, f, 3, i);
+    let row = graph::row_of(&*edges, i, n);
+    let dropped = graph::drop_to(&mut *lin, &mut *edges, &mut *masks, f, 3, i);
     if w > 0 {
         let left = graph::add_constant(dropped, a);
         graph::add_linear(&mut *lin, j, -a);
-        turn_edges(&mut *lin, &mut *edges, near, j);
+        turn_edges(&mut *lin, &mut *edges, &mut *masks, &row, m, j);
         let step = step_over(i, j, 1);
         return low_degree::Reduced {
             frame: left,
@@ -197,7 +201,7 @@ pub fn contract(
         };
     }
     graph::add_linear(&mut *lin, j, a + w);
-    move_edges(&mut *edges, near, j);
+    move_edges(&mut *edges, &mut *masks, &row, m, j);
     let step = step_over(i, j, 2);
     low_degree::Reduced {
         frame: dropped,

@@ -6,7 +6,7 @@ use native.Mathlib.Omega.{arith}
 use lib.ListN.{length, drop, replicate, length-replicate}
 use lib.IntN.{ℤ, pos}
 use Rattle.whole.specs.Lists.{drop-replicate}
-use Rattle.rules.specs.Graph.{Graph, graph, addTerms, bare, graphOf, noEdges}
+use Rattle.rules.specs.Graph.{Graph, addTerms, bare, graphOf, noEdges}
 use Rattle.rules.specs.Fixing.{fixAll, start}
 use Rattle.rules.specs.Objective.{objective, weightOf}
 use Rattle.accepted.specs.Mass.{weight-append, weight-zeros}

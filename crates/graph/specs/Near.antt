@@ -1,20 +1,20 @@
 -- A decision's neighbours and its edges to them, as the code holds them.
 -- Assumes nothing.
 use mathlib.Core.Path.{_≡_}
-use mathlib.Core.List.{List, _++_, map}
-use Prim.Native.Nat.{ℕ, _+_, _*_, _-_}
-use lib.ListN.{length, getD, replicate}
+use mathlib.Core.List.{List, [], _∷_, map}
+use Prim.Native.Nat.{ℕ, _+_, _*_}
+use lib.ListN.{length, getD}
 use lib.IntN.{ℤ, pos}
 use Rattle.rules.specs.Graph.{Graph, graph, neighbours}
 use Rattle.graph.specs.declared.Near.{Near}
 
--- at the front of 64 places, the rest of them empty
-unfoldable pub padded : {A : Type 0} → List A → A → List A
-padded xs z = xs ++ replicate (64 - length xs) z
+-- the first three of a list; z where there are fewer
+abbrev pub three : {A : Type 0} → List A → A → List A
+three xs z = getD xs 0 z ∷ getD xs 1 z ∷ getD xs 2 z ∷ []
 
 -- of a list of decisions, with i's edges to them
 abbrev pub nearAmong : List ℤ → ℕ → List ℕ → Near
-nearAmong e i js = record { list = padded js 0; weights = padded (map (λ j. getD e (64 * i + j) (pos 0)) js) (pos 0); count = length js }
+nearAmong e i js = record { list = three js 0; weights = three (map (λ j. getD e (64 * i + j) (pos 0)) js) (pos 0); count = length js }
 
 unfoldable pub nearOf : Graph → ℕ → Near
 nearOf g i = nearAmong (g .edges) i (neighbours g i)

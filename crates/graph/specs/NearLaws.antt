@@ -1,44 +1,38 @@
 -- Laws of the neighbours as the code holds them.
 -- Assumes nothing.
-use mathlib.Core.Path.{_≡_, refl, sym, ap, _∙_, subst}
+use mathlib.Core.Path.{_≡_, refl, sym, ap, ap₂, _∙_}
 use mathlib.Core.Bool.{Bool, true, false, cond, not}
 use mathlib.Core.List.{List, [], _∷_, _++_, map, append-nil}
-use Prim.Native.Nat.{ℕ, zero, suc, _+_, _*_, _-_, _<_, _≤_}
+use Prim.Native.Nat.{ℕ, zero, suc, _+_, _*_, _<_, _≤_}
 use native.Mathlib.Omega.{arith}
 use native.Mathlib.Numerals.{add-one}
-use lib.ListN.{length, getD, set, replicate, length-append, length-replicate}
-use lib.Seq.{set-at, append-snoc}
+use lib.ListN.{length, getD, set, length-append}
 use lib.IntN.{ℤ, pos}
-use Rattle.whole.specs.Words.{isZeroZ, from, upto, those}
+use Rattle.whole.specs.Words.{isZeroZ, from, upto, mem, those}
+use Rattle.whole.specs.Members.{in-at, in-those, upto-in}
 use Rattle.rules.specs.Graph.{Graph, edge, row, neighbours}
-use Rattle.graph.specs.Near.{padded, nearAmong, nearOf}
+use Rattle.graph.specs.Near.{three, nearAmong, nearOf}
 use Rattle.graph.specs.declared.Near.{Near}
 
--- ---- lists at the front of 64 places
+-- ---- the first three of a list
 module _ {A : Type 0} (z : A) where
-  zeros-at : (n k : ℕ) → getD (replicate n z) k z ≡ z
-  zeros-at zero k = refl
-  zeros-at (suc n) zero = refl
-  zeros-at (suc n) (suc k) = zeros-at n k
+  pub three-at : (xs : List A) (k : ℕ) → k < 3 → getD (three xs z) k z ≡ getD xs k z
+  three-at xs zero h = refl
+  three-at xs (suc zero) h = refl
+  three-at xs (suc (suc zero)) h = refl
+  three-at xs (suc (suc (suc k))) h = absurd (omega arith)
 
-  filled-at : (xs : List A) (n k : ℕ) → getD (xs ++ replicate n z) k z ≡ getD xs k z
-  filled-at [] n k = zeros-at n k
-  filled-at (x ∷ xs) n zero = refl
-  filled-at (x ∷ xs) n (suc k) = filled-at xs n k
+  three-more : (xs : List A) (v : A) → length xs < 3 → set (three xs z) (length xs) v ≡ three (xs ++ (v ∷ [])) z
+  three-more [] v h = refl
+  three-more (a ∷ []) v h = refl
+  three-more (a ∷ b ∷ []) v h = refl
+  three-more (a ∷ b ∷ c ∷ xs) v h = absurd (omega arith)
 
-  pub padded-at : (xs : List A) (k : ℕ) → getD (padded xs z) k z ≡ getD xs k z
-  unfolding padded
-  padded-at xs k = filled-at xs (64 - length xs) k
-
-  pub padded-length : (xs : List A) → length xs ≤ 64 → length (padded xs z) ≡ 64
-  unfolding padded
-  padded-length xs h = length-append xs (replicate (64 - length xs) z) ∙ rw length-replicate (omega arith)
-
-  pub padded-more : (xs : List A) (n : ℕ) (v : A) → n ≡ length xs → n < 64 → set (padded xs z) n v ≡ padded (xs ++ (v ∷ [])) z
-  unfolding padded
-  padded-more xs n v e h =
-      let d : 64 - length xs ≡ suc (64 - length (xs ++ (v ∷ []))) = rw length-append (omega arith) in
-      rw d (set-at xs z (replicate (64 - length (xs ++ (v ∷ []))) z) v n (sym e) ∙ sym (append-snoc xs v (replicate (64 - length (xs ++ (v ∷ []))) z)))
+  three-full : (xs : List A) (v : A) → 3 ≤ length xs → three xs z ≡ three (xs ++ (v ∷ [])) z
+  three-full [] v h = absurd (omega arith)
+  three-full (a ∷ []) v h = absurd (omega arith)
+  three-full (a ∷ b ∷ []) v h = absurd (omega arith)
+  three-full (a ∷ b ∷ c ∷ xs) v h = refl
 
 -- ---- those below a number
 from-more : (a k : ℕ) → from a (suc k) ≡ from a k ++ ((a + k) ∷ [])
@@ -98,27 +92,36 @@ length-map f [] = refl
 length-map f (x ∷ xs) = ap suc (length-map f xs)
 
 -- ---- the loop over a row
+made : {a b : List ℕ} {x y : List ℤ} {m n : ℕ} → a ≡ b → x ≡ y → m ≡ n → _≡_ {A = Near} (record { list = a; weights = x; count = m }) (record { list = b; weights = y; count = n })
+made p q r = rw (p, q, r)
+
 module _ (e : List ℤ) (i : ℕ) where
   abbrev pub there : ℕ → Bool
   there j = not (isZeroZ (getD e (64 * i + j) (pos 0)))
 
-  -- one more neighbour is written down
-  pub near-more : (js : List ℕ) (j : ℕ) (w : ℤ) (r : Near) → r ≡ nearAmong e i js → w ≡ getD e (64 * i + j) (pos 0) → length js < 64
-      → _≡_ {A = Near} (record { list = set (r .list) (r .count) j; weights = set (r .weights) (r .count) w; count = r .count + 1 }) (nearAmong e i (js ++ (j ∷ [])))
-  near-more js j w r q f h =
-      let f₀ : ℕ → ℤ = λ j. getD e (64 * i + j) (pos 0) in
-      q-ind r (nearAmong e i js) q
-      (made (padded-more 0 js (length js) j refl h)
-      (ap (set (padded (map f₀ js) (pos 0)) (length js)) f ∙ padded-more (pos 0) (map f₀ js) (length js) (f₀ j) (sym (length-map f₀ js)) h ∙ ap (λ (xs : List ℤ). padded xs (pos 0)) (sym (map-append f₀ js (j ∷ []))))
-      (sym (length-append js (j ∷ []))))
-    where
-      made : {a b : List ℕ} {x y : List ℤ} {m n : ℕ} → a ≡ b → x ≡ y → m ≡ n → _≡_ {A = Near} (record { list = a; weights = x; count = m }) (record { list = b; weights = y; count = n })
-      made p q r = rw (p, q, r)
+  -- one more neighbour: one of the first three is written down
+  module _ (js : List ℕ) (j : ℕ) (r : Near) (q : r ≡ nearAmong e i js) where
+    abbrev entry : ℕ → ℤ
+    entry j = getD e (64 * i + j) (pos 0)
 
-      q-ind : (r t : Near) → r ≡ t → {S : Near}
-          → _≡_ {A = Near} (record { list = set (t .list) (t .count) j; weights = set (t .weights) (t .count) w; count = t .count + 1 }) S
-          → _≡_ {A = Near} (record { list = set (r .list) (r .count) j; weights = set (r .weights) (r .count) w; count = r .count + 1 }) S
-      q-ind r t q {S} h = subst (λ (r : Near). _≡_ {A = Near} (record { list = set (r .list) (r .count) j; weights = set (r .weights) (r .count) w; count = r .count + 1 }) S) (sym q) h
+    pub near-more : (w : ℤ) → w ≡ entry j → r .count < 3
+        → _≡_ {A = Near} (record { list = set (r .list) (r .count) j; weights = set (r .weights) (r .count) w; count = r .count + 1 }) (nearAmong e i (js ++ (j ∷ [])))
+    near-more w f h =
+        let n : length js < 3 = omega (arith, ap (λ (x : Near). x .count) q) in
+        let m : length (map entry js) < 3 = omega (arith, length-map entry js) in
+        ap (λ (x : Near). record { list = set (x .list) (x .count) j; weights = set (x .weights) (x .count) w; count = x .count + 1 }) q
+        ∙ made (three-more 0 js j n)
+        (ap₂ (λ (t : ℕ) (v : ℤ). set (three (map entry js) (pos 0)) t v) (sym (length-map entry js)) f ∙ three-more (pos 0) (map entry js) (entry j) m ∙ ap (λ (xs : List ℤ). three xs (pos 0)) (sym (map-append entry js (j ∷ []))))
+        (sym (length-append js (j ∷ [])))
+
+    pub near-full : 3 ≤ r .count → _≡_ {A = Near} (record { list = r .list; weights = r .weights; count = r .count + 1 }) (nearAmong e i (js ++ (j ∷ [])))
+    near-full h =
+        let n : 3 ≤ length js = omega (arith, ap (λ (x : Near). x .count) q) in
+        let m : 3 ≤ length (map entry js) = omega (arith, length-map entry js) in
+        ap (λ (x : Near). record { list = x .list; weights = x .weights; count = x .count + 1 }) q
+        ∙ made (three-full 0 js j n)
+        (three-full (pos 0) (map entry js) (entry j) m ∙ ap (λ (xs : List ℤ). three xs (pos 0)) (sym (map-append entry js (j ∷ []))))
+        (sym (length-append js (j ∷ [])))
 
 -- ---- what is read from it
 from-below : (a c k b : ℕ) → a + c ≤ b → 0 < b → getD (from a c) k 0 < b
@@ -147,18 +150,32 @@ pub few-neighbours : (g : Graph) (i : ℕ) → length (neighbours g i) ≤ g .n
 unfolding neighbours
 few-neighbours g i = those-few (λ j. not (isZeroZ (edge g i j))) (g .n)
 
+pub mem-inside : (g : Graph) (i t : ℕ) → mem t (neighbours g i) ≡ true → t < g .n
+unfolding neighbours
+mem-inside g i t h = upto-in t (g .n) (in-those (λ j. not (isZeroZ (edge g i j))) t (upto (g .n)) h .0)
+
+pub neighbour-inside : (g : Graph) (i k : ℕ) → k < length (neighbours g i) → getD (neighbours g i) k 0 < g .n
+neighbour-inside g i k h = mem-inside g i (getD (neighbours g i) k 0) (in-at (neighbours g i) k h)
+
 module _ (g : Graph) (i : ℕ) (near : Near) (is : near ≡ nearOf g i) where
   pub near-count : near .count ≡ length (neighbours g i)
   unfolding nearOf
   near-count = ap (λ (x : Near). x .count) is
 
-  pub near-list : (k : ℕ) → getD (near .list) k 0 ≡ getD (neighbours g i) k 0
+  pub near-list : (k : ℕ) → k < 3 → getD (near .list) k 0 ≡ getD (neighbours g i) k 0
   unfolding nearOf
-  near-list k = ap (λ (x : Near). getD (x .list) k 0) is ∙ padded-at 0 (neighbours g i) k
+  near-list k h = ap (λ (x : Near). getD (x .list) k 0) is ∙ three-at 0 (neighbours g i) k h
 
-  pub near-weights : (k : ℕ) → getD (near .weights) k (pos 0) ≡ getD (row g i (neighbours g i)) k (pos 0)
+  pub near-weights : (k : ℕ) → k < 3 → getD (near .weights) k (pos 0) ≡ getD (row g i (neighbours g i)) k (pos 0)
   unfolding nearOf
-  near-weights k = ap (λ (x : Near). getD (x .weights) k (pos 0)) is ∙ padded-at (pos 0) (row g i (neighbours g i)) k
+  near-weights k h = ap (λ (x : Near). getD (x .weights) k (pos 0)) is ∙ three-at (pos 0) (row g i (neighbours g i)) k h
 
   pub near-below : g .n ≤ 64 → (k : ℕ) → getD (near .list) k 0 < 64
-  near-below h k = rw (near-list k) (neighbour-below g i k h)
+  unfolding nearOf
+  near-below h zero = rw (near-list 0 (omega arith)) (neighbour-below g i 0 h)
+  near-below h (suc zero) = rw (near-list 1 (omega arith)) (neighbour-below g i 1 h)
+  near-below h (suc (suc zero)) = rw (near-list 2 (omega arith)) (neighbour-below g i 2 h)
+  near-below h (suc (suc (suc k))) = rw is (omega arith)
+
+  pub near-inside : (k : ℕ) → k < 3 → k < near .count → getD (near .list) k 0 < g .n
+  near-inside k h l = rw (near-list k h) (neighbour-inside g i k (omega (arith, near-count)))

@@ -2,24 +2,28 @@
 -- Assumes nothing.
 use mathlib.Core.Path.{_≡_, sym, ap, subst}
 use mathlib.Core.List.{map}
-use Prim.Native.Nat.{ℕ, _+_, _*_, _≤_}
+use Prim.Native.Nat.{ℕ, zero, suc, _+_, _*_, _≤_}
 use native.Mathlib.Omega.{arith}
 use lib.ListN.{getD}
-use lib.IntN.{ℤ, pos}
+use lib.IntN.{pos}
 use Rattle.whole.specs.Parts.{∣_∣}
 use Rattle.rules.specs.Graph.{Graph, dropTo, neighbours}
 use Rattle.rules.specs.Size.{Within}
 use Rattle.accepted.specs.Small.{Small, small-set, small-clear, map-at-most}
-use Rattle.graph.specs.Near.{nearOf}
-use Rattle.graph.specs.NearLaws.{padded-at}
+use Rattle.graph.specs.Near.{three, nearOf}
 
 pub small-near : {b : ℕ} (g : Graph) (i : ℕ) → Small b (g .edges) → Small b (nearOf g i .weights)
 unfolding nearOf
-small-near {b} g i s = record {
-  each = λ k.
-      let f : ℕ → ℤ = λ j. getD (g .edges) (64 * i + j) (pos 0) in
-      omega (arith, ap ∣_∣ (padded-at (pos 0) (map f (neighbours g i)) k), map-at-most b f (neighbours g i) k (λ j. s .each (64 * i + j)));
-}
+small-near {b} g i s = record { each = three-at-most }
+  where
+    at-most : (k : ℕ) → ∣ getD (map (λ j. getD (g .edges) (64 * i + j) (pos 0)) (neighbours g i)) k (pos 0) ∣ ≤ b
+    at-most k = map-at-most b (λ j. getD (g .edges) (64 * i + j) (pos 0)) (neighbours g i) k (λ j. s .each (64 * i + j))
+
+    three-at-most : (k : ℕ) → ∣ getD (three (map (λ j. getD (g .edges) (64 * i + j) (pos 0)) (neighbours g i)) (pos 0)) k (pos 0) ∣ ≤ b
+    three-at-most zero = at-most 0
+    three-at-most (suc zero) = at-most 1
+    three-at-most (suc (suc zero)) = at-most 2
+    three-at-most (suc (suc (suc k))) = omega arith
 
 -- the size rule's bounds hold of what is left when a decision is dropped
 module _ (s i : ℕ) (g d : Graph) (h : d ≡ dropTo s i g) (w : Within g) where

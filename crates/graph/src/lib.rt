@@ -1,12 +1,14 @@
 // The working graph: the atomic updates, building it from the lists, fixing.
 ghost use mathlib.Core.Path.{_≡_};
 ghost use Prim.Native.Nat.{ℕ, _+_, _*_, _-_, _<_, _≤_};
-ghost use mathlib.Core.List.{_++_};
+ghost use mathlib.Core.Bool.{cond, not};
+ghost use mathlib.Core.List.{List, _++_};
 ghost use lib.ListN.{length, getD, set, drop, replicate};
-ghost use lib.IntN.{pos, natAbs, _+ℤ_};
+ghost use lib.Dec.{eqb};
+ghost use lib.IntN.{ℤ, pos, natAbs, _+ℤ_};
 ghost use mir.Syntax.{w64};
 ghost use mir.Val.{SFits};
-ghost use Rattle.whole.specs.Words.{tab};
+ghost use Rattle.whole.specs.Words.{tab, bit, isZeroZ};
 ghost use Rattle.rules.specs.Graph.{addTerm, addTerms, clear as cleared, dropTo, noEdges};
 ghost use Rattle.rules.specs.Fixing.{fix as fixing, fixAll, start as started};
 ghost use Rattle.accepted.specs.Accept.{Fit};
@@ -14,6 +16,7 @@ ghost use Rattle.rules.specs.Objective.{objective, weightOf};
 ghost use Rattle.accepted.specs.Mass.{mass};
 ghost use Rattle.graph.specs.Held.{held, withConstant, noLinear, Below, Does, Spreads};
 ghost use Rattle.graph.specs.Near.{Nears, Degrees};
+ghost use Rattle.graph.specs.Shows.{Shows, noMasks};
 
 // What a graph has besides its weights.
 pub struct Frame {
@@ -22,10 +25,10 @@ pub struct Frame {
     pub states: [u8; 64],
 }
 
-// A decision's neighbours, ascending, and its edges to them: the first `count` places, then zeros.
+// How many neighbours a decision has, and of the first three, ascending, which they are and its edges to them; zeros where there are fewer.
 pub struct Near {
-    pub list: [u8; 64],
-    pub weights: [i64; 64],
+    pub list: [u8; 3],
+    pub weights: [i64; 3],
     pub count: usize,
 }
 
@@ -48,9 +51,31 @@ pub fn add_linear(lin: &mut [i64; 64], k: usize, v: i64)
     lin[k] = w;
 }
 
-pub fn add_edge(edges: &mut [i64; 4096], k: usize, l: usize, v: i64)
+// The mask of i. (A call's result is known to fit its type; an element that is read is not.)
+fn mask_at(masks: &[u64; 64], i: usize) -> u64
+    requires { ⌜ i < 64 ⌝ }
+    ensures { λ r. ⌜ r ≡ getD (now (masks .entry)) i 0 ⌝ }
+{
+    masks[i]
+}
+
+// A mask with decision j in it where the weight w is an edge, and without j where it is none.
+pub fn marked(m: u64, j: usize, w: i64) -> u64
+    requires { ⌜ j < 64 ⌝ }
+    ensures { λ r. ⌜ ((k : ℕ) → k < 64 → bit r k ≡ cond (eqb k j) (not (isZeroZ w)) (bit m k)) ⌝ }
+{
+    let one: u64 = 1 << j;
+    if w != 0 {
+        return m | one;
+    }
+    m ^ (m & one)
+}
+
+// An edge gains v, and the masks of the two show whether it is one.
+pub fn add_edge(edges: &mut [i64; 4096], masks: &mut [u64; 64], k: usize, l: usize, v: i64)
     requires { ⌜ (k < 64) × (l < 64) × SFits w64 (getD (now edges) (64 * k + l) (pos 0) +ℤ v) × SFits w64 (getD (now edges) (64 * l + k) (pos 0) +ℤ v) ⌝ }
-    ensures { λ _. ⌜ now (edges .exit) ≡ set (set (now (edges .entry)) (64 * k + l) (getD (now (edges .entry)) (64 * k + l) (pos 0) +ℤ v)) (64 * l + k) (getD (now (edges .entry)) (64 * l + k) (pos 0) +ℤ v) ⌝ }
+    ensures { λ _. ⌜ (now (edges .exit) ≡ set (set (now (edges .entry)) (64 * k + l) (getD (now (edges .entry)) (64 * k + l) (pos 0) +ℤ v)) (64 * l + k) (getD (now (edges .entry)) (64 * l + k) (pos 0) +ℤ v))
+        × ((n : ℕ) → k < n → l < n → Shows n (now (edges .entry)) (now (masks .entry)) → Shows n (now (edges .exit)) (now (masks .exit))) ⌝ }
 {
     let a = 64 * k + l;
     let b = 64 * l + k;
@@ -58,42 +83,49 @@ pub fn add_edge(edges: &mut [i64; 4096], k: usize, l: usize, v: i64)
     let y = edges[b] + v;
     edges[a] = x;
     edges[b] = y;
+    masks[k] = marked(masks[k], l, x);
+    masks[l] = marked(masks[l], k, y);
 }
 
-// i's edges to the decisions below n are none, both ways round.
-pub fn wipe(edges: &mut [i64; 4096], i: usize, n: usize)
-    requires { ⌜ (i < 64) × (n ≤ 64) ⌝ }
-    ensures { λ _. ⌜ now (edges .exit) ≡ cleared i n (now (edges .entry)) ⌝ }
+// i's edges are none, both ways round: those that its mask shows.
+pub fn wipe(edges: &mut [i64; 4096], masks: &mut [u64; 64], i: usize)
+    requires { ⌜ i < 64 ⌝ }
+    ensures { λ _. ⌜ ((n : ℕ) → n ≤ 64 → Shows n (now (edges .entry)) (now (masks .entry))
+        → (now (edges .exit) ≡ cleared i n (now (edges .entry))) × Shows n (now (edges .exit)) (now (masks .exit))) ⌝ }
 {
-    let mut j: usize = 0;
-    while j < n {
+    let mut rest = mask_at(&*masks, i);
+    while rest != 0 {
+        let j = u64::trailing_zeros(rest) as usize;
         edges[64 * i + j] = 0;
         edges[64 * j + i] = 0;
-        j = j + 1;
+        masks[j] = marked(masks[j], i, 0);
+        rest = rest & (rest - 1);
     }
+    masks[i] = 0;
 }
 
 // ---- reading
 
-pub fn neighbours(edges: &[i64; 4096], n: usize, i: usize) -> Near
-    requires { ⌜ (i < 64) × (n ≤ 64) ⌝ }
-    ensures { λ r. ⌜ Nears r (now (edges .entry)) n i ⌝ }
+pub fn neighbours(edges: &[i64; 4096], masks: &[u64; 64], i: usize) -> Near
+    requires { ⌜ i < 64 ⌝ }
+    ensures { λ r. ⌜ ((n : ℕ) → n ≤ 64 → Shows n (now (edges .entry)) (now (masks .entry)) → Nears r (now (edges .entry)) n i) ⌝ }
 {
     let mut r = Near {
-        list: [0; 64],
-        weights: [0; 64],
+        list: [0; 3],
+        weights: [0; 3],
         count: 0,
     };
-    let mut j: usize = 0;
-    while j < n {
-        let w = edges[64 * i + j];
-        if w != 0 {
-            let at = r.count;
+    let mut rest = mask_at(masks, i);
+    while rest != 0 {
+        let at = r.count;
+        if at < 3 {
+            let j = u64::trailing_zeros(rest) as usize;
+            let w = edges[64 * i + j];
             r.list[at] = j as u8;
             r.weights[at] = w;
-            r.count = at + 1;
         }
-        j = j + 1;
+        r.count = at + 1;
+        rest = rest & (rest - 1);
     }
     r
 }
@@ -129,21 +161,30 @@ pub fn load(lin: &mut [i64; 64], weights: &[i64])
     }
 }
 
-pub fn add_term(lin: &mut [i64; 64], edges: &mut [i64; 4096], i: usize, j: usize, w: i64)
+pub fn add_term(
+    lin: &mut [i64; 64],
+    edges: &mut [i64; 4096],
+    masks: &mut [u64; 64],
+    i: usize,
+    j: usize,
+    w: i64,
+)
     requires { ⌜ (i < 64) × (j < 64) × (weightOf (now lin) + weightOf (now edges) + 2 * natAbs w ≤ 2199023255552) ⌝ }
     ensures { λ _. ⌜ Does (addTerm i j w) (now (lin .entry)) (now (edges .entry)) (now (lin .exit)) (now (edges .exit))
-        × (weightOf (now (lin .exit)) + weightOf (now (edges .exit)) ≤ weightOf (now (lin .entry)) + weightOf (now (edges .entry)) + 2 * natAbs w) ⌝ }
+        × (weightOf (now (lin .exit)) + weightOf (now (edges .exit)) ≤ weightOf (now (lin .entry)) + weightOf (now (edges .entry)) + 2 * natAbs w)
+        × ((n : ℕ) → i < n → j < n → Shows n (now (edges .entry)) (now (masks .entry)) → Shows n (now (edges .exit)) (now (masks .exit))) ⌝ }
 {
     if i == j {
         add_linear(&mut *lin, i, w);
     } else {
-        add_edge(&mut *edges, i, j, w);
+        add_edge(&mut *edges, &mut *masks, i, j, w);
     }
 }
 
 pub fn add_terms(
     lin: &mut [i64; 64],
     edges: &mut [i64; 4096],
+    masks: &mut [u64; 64],
     firsts: &[u32],
     seconds: &[u32],
     term_weights: &[i64],
@@ -151,14 +192,15 @@ pub fn add_terms(
     requires { ⌜ (length (now seconds) ≡ length (now firsts)) × (length (now «term_weights») ≡ length (now firsts)) × Below 64 (now firsts) × Below 64 (now seconds)
         × (weightOf (now lin) + weightOf (now edges) + 2 * weightOf (now «term_weights») ≤ 2199023255552) ⌝ }
     ensures { λ _. ⌜ Does (addTerms (now (firsts .entry)) (now (seconds .entry)) (now («term_weights» .entry))) (now (lin .entry)) (now (edges .entry)) (now (lin .exit)) (now (edges .exit))
-        × (weightOf (now (lin .exit)) + weightOf (now (edges .exit)) ≤ 2199023255552) ⌝ }
+        × (weightOf (now (lin .exit)) + weightOf (now (edges .exit)) ≤ 2199023255552)
+        × ((n : ℕ) → Below n (now (firsts .entry)) → Below n (now (seconds .entry)) → Shows n (now (edges .entry)) (now (masks .entry)) → Shows n (now (edges .exit)) (now (masks .exit))) ⌝ }
 {
     let mut k: usize = 0;
     while k < firsts.len() {
         let i = firsts[k] as usize;
         let j = seconds[k] as usize;
         let w = term_weights[k];
-        add_term(&mut *lin, &mut *edges, i, j, w);
+        add_term(&mut *lin, &mut *edges, &mut *masks, i, j, w);
         k = k + 1;
     }
 }
@@ -215,49 +257,71 @@ pub fn spread(lin: &mut [i64; 64], row: &[i64; 64], n: usize)
 }
 
 // i leaves with a state, and with its weight and its edges.
-pub fn drop_to(lin: &mut [i64; 64], edges: &mut [i64; 4096], f: Frame, s: u8, i: usize) -> Frame
-    requires { ⌜ (i < 64) × (f .n ≤ 64) ⌝ }
-    ensures { λ r. ⌜ (held r (now (lin .exit)) (now (edges .exit)) ≡ dropTo s i (held f (now (lin .entry)) (now (edges .entry)))) ⌝ }
+pub fn drop_to(
+    lin: &mut [i64; 64],
+    edges: &mut [i64; 4096],
+    masks: &mut [u64; 64],
+    f: Frame,
+    s: u8,
+    i: usize,
+) -> Frame
+    requires { ⌜ (i < 64) × (f .n ≤ 64) × Shows (f .n) (now edges) (now masks) ⌝ }
+    ensures { λ r. ⌜ (held r (now (lin .exit)) (now (edges .exit)) ≡ dropTo s i (held f (now (lin .entry)) (now (edges .entry))))
+        × Shows (f .n) (now (edges .exit)) (now (masks .exit)) ⌝ }
 {
-    let n = f.n;
     lin[i] = 0;
-    wipe(&mut *edges, i, n);
+    wipe(&mut *edges, &mut *masks, i);
     let mut g = f;
     g.states[i] = s;
     g
 }
 
 // i is fixed to v.
-pub fn fix(lin: &mut [i64; 64], edges: &mut [i64; 4096], f: Frame, i: usize, v: u8) -> Frame
-    requires { ⌜ (i < 64) × (v < 2) × (f .n ≤ 64) × (mass (held f (now lin) (now edges)) ≤ 2199023255552) ⌝ }
+pub fn fix(
+    lin: &mut [i64; 64],
+    edges: &mut [i64; 4096],
+    masks: &mut [u64; 64],
+    f: Frame,
+    i: usize,
+    v: u8,
+) -> Frame
+    requires { ⌜ (i < 64) × (v < 2) × (f .n ≤ 64) × (mass (held f (now lin) (now edges)) ≤ 2199023255552) × Shows (f .n) (now edges) (now masks) ⌝ }
     ensures { λ r. ⌜ (held r (now (lin .exit)) (now (edges .exit)) ≡ fixing i v (held f (now (lin .entry)) (now (edges .entry))))
         × (r .n ≡ f .n)
-        × (mass (held r (now (lin .exit)) (now (edges .exit))) ≤ mass (held f (now (lin .entry)) (now (edges .entry)))) ⌝ }
+        × (mass (held r (now (lin .exit)) (now (edges .exit))) ≤ mass (held f (now (lin .entry)) (now (edges .entry))))
+        × Shows (f .n) (now (edges .exit)) (now (masks .exit)) ⌝ }
 {
     let n = f.n;
     if v == 0 {
-        return drop_to(&mut *lin, &mut *edges, f, 0, i);
+        return drop_to(&mut *lin, &mut *edges, &mut *masks, f, 0, i);
     }
     let row = row_of(&*edges, i, n);
     let a = lin[i];
-    let dropped = drop_to(&mut *lin, &mut *edges, f, 1, i);
+    let dropped = drop_to(&mut *lin, &mut *edges, &mut *masks, f, 1, i);
     let g = add_constant(dropped, a);
     spread(&mut *lin, &row, n);
     g
 }
 
 // Ascending; 2 is free.
-pub fn fix_all(lin: &mut [i64; 64], edges: &mut [i64; 4096], start: Frame, fixings: &[u8]) -> Frame
-    requires { ⌜ (start .n ≤ 64) × (length (now fixings) ≤ 64) × (mass (held start (now lin) (now edges)) ≤ 2199023255552) ⌝ }
+pub fn fix_all(
+    lin: &mut [i64; 64],
+    edges: &mut [i64; 4096],
+    masks: &mut [u64; 64],
+    start: Frame,
+    fixings: &[u8],
+) -> Frame
+    requires { ⌜ (start .n ≤ 64) × (length (now fixings) ≤ 64) × (mass (held start (now lin) (now edges)) ≤ 2199023255552) × Shows (start .n) (now edges) (now masks) ⌝ }
     ensures { λ r. ⌜ (held r (now (lin .exit)) (now (edges .exit)) ≡ fixAll 0 (now (fixings .entry)) (held start (now (lin .entry)) (now (edges .entry))))
-        × (mass (held r (now (lin .exit)) (now (edges .exit))) ≤ 2199023255552) × (r .n ≡ start .n) ⌝ }
+        × (mass (held r (now (lin .exit)) (now (edges .exit))) ≤ 2199023255552) × (r .n ≡ start .n)
+        × Shows (start .n) (now (edges .exit)) (now (masks .exit)) ⌝ }
 {
     let mut f = start;
     let mut i: usize = 0;
     while i < fixings.len() {
         let v = fixings[i];
         if v < 2 {
-            let g = fix(&mut *lin, &mut *edges, f, i, v);
+            let g = fix(&mut *lin, &mut *edges, &mut *masks, f, i, v);
             f = g;
         }
         i = i + 1;
@@ -265,10 +329,11 @@ pub fn fix_all(lin: &mut [i64; 64], edges: &mut [i64; 4096], start: Frame, fixin
     f
 }
 
-// The graph of an objective that is not refused, fixed, in two arrays that hold zeros. It does not look at the switches and the budget.
+// The graph of an objective that is not refused, fixed, in arrays that hold zeros. It does not look at the switches and the budget.
 pub fn begin(
     lin: &mut [i64; 64],
     edges: &mut [i64; 4096],
+    masks: &mut [u64; 64],
     n: usize,
     weights: &[i64],
     firsts: &[u32],
@@ -276,12 +341,20 @@ pub fn begin(
     term_weights: &[i64],
     fixings: &[u8],
 ) -> Frame
-    requires { ⌜ (now lin ≡ noLinear) × (now edges ≡ noEdges) × Fit (objective n (now weights) (now firsts) (now seconds) (now «term_weights») (now fixings) 0 0) ⌝ }
+    requires { ⌜ (now lin ≡ noLinear) × (now edges ≡ noEdges) × (now masks ≡ noMasks) × Fit (objective n (now weights) (now firsts) (now seconds) (now «term_weights») (now fixings) 0 0) ⌝ }
     ensures { λ r. ⌜ ((switches budget : ℕ) → held r (now (lin .exit)) (now (edges .exit)) ≡ started (objective n (now (weights .entry)) (now (firsts .entry)) (now (seconds .entry)) (now («term_weights» .entry)) (now (fixings .entry)) switches budget))
-        × (mass (held r (now (lin .exit)) (now (edges .exit))) ≤ 2199023255552) × (r .n ≡ n) ⌝ }
+        × (mass (held r (now (lin .exit)) (now (edges .exit))) ≤ 2199023255552) × (r .n ≡ n)
+        × Shows n (now (edges .exit)) (now (masks .exit)) ⌝ }
 {
     load(&mut *lin, weights);
-    add_terms(&mut *lin, &mut *edges, firsts, seconds, term_weights);
+    add_terms(
+        &mut *lin,
+        &mut *edges,
+        &mut *masks,
+        firsts,
+        seconds,
+        term_weights,
+    );
     let f = opening(n);
-    fix_all(&mut *lin, &mut *edges, f, fixings)
+    fix_all(&mut *lin, &mut *edges, &mut *masks, f, fixings)
 }

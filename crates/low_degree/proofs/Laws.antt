@@ -184,5 +184,5 @@ module _ (g : Graph) (i : ℕ) (near : Near) (is : near ≡ nearOf g i) (few : n
   unfolding eliminate
   eliminated d r t e p q =
       q
-      ∙ ap₂ (absorb (λ m. getD t m (pos 0))) (first-two (neighbours g i) (near .count) (getD (near .list) 0 0) (getD (near .list) 1 0) (near-count g i near is) (near-list g i near is 0) (near-list g i near is 1) few) p
+      ∙ ap₂ (absorb (λ m. getD t m (pos 0))) (first-two (neighbours g i) (near .count) (getD (near .list) 0 0) (getD (near .list) 1 0) (near-count g i near is) (near-list g i near is 0 (omega arith)) (near-list g i near is 1 (omega arith)) few) p
       ∙ absorb-same (λ m. getD t m (pos 0)) (tee g i) (neighbours g i) (dropTo 3 i g) (λ m l. ap (λ (x : List ℤ). getD x m (pos 0)) e ∙ tab-at (tee g i) 8 m (pos 0) l)

@@ -1,7 +1,7 @@
 -- The table of a decision's deltas, one entry a mask of at most three neighbours, and what is read from it.
 -- Assumes nothing.
 use mathlib.Core.Path.{_≡_}
-use mathlib.Core.List.{List, [], _∷_}
+use mathlib.Core.List.{List}
 use Prim.Native.Nat.{ℕ, _^_}
 use lib.ListN.{getD}
 use lib.IntN.{ℤ, pos, _+ℤ_}
@@ -9,17 +9,14 @@ use lib.Signed.{ltZ}
 use Rattle.whole.specs.Words.{tab, chosen, bitsFrom, below0}
 use Rattle.rules.specs.Graph.{Graph, lin}
 use Rattle.rules.specs.Eliminate.{delta, tee}
-use Rattle.graph.specs.Near.{nearOf}
+use Rattle.graph.specs.Near.{three, nearOf}
 use Rattle.graph.specs.declared.Near.{Near}
 use Rattle.low_degree.specs.declared.Table.{Table}
 use Rattle.rules.specs.declared.Step.{Step}
 
--- the first three weights; a missing one is 0, so that one table serves every degree
-abbrev pub three : List ℤ → List ℤ
-three ws = getD ws 0 (pos 0) ∷ getD ws 1 (pos 0) ∷ getD ws 2 (pos 0) ∷ []
-
+-- of the first three weights; a missing one is 0, so that one table serves every degree
 unfoldable pub deltasOf : ℤ → List ℤ → List ℤ
-deltasOf a ws = tab (λ m. a +ℤ chosen (three ws) m) 8
+deltasOf a ws = tab (λ m. a +ℤ chosen (three ws (pos 0)) m) 8
 
 unfoldable pub teesOf : List ℤ → List ℤ
 teesOf ds = tab (λ m. below0 (getD ds m (pos 0))) 8

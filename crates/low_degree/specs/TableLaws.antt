@@ -18,19 +18,19 @@ use Rattle.rules.specs.Graph.{Graph, lin, edge, neighbours, row}
 use Rattle.rules.specs.Eliminate.{delta, chooses, tee, stepOf}
 use Rattle.rules.specs.Record.{hold}
 use Rattle.rules.specs.Size.{Within}
-use Rattle.graph.specs.Near.{nearOf}
+use Rattle.graph.specs.Near.{three, nearOf}
 use Rattle.graph.specs.NearLaws.{length-map, near-count, near-list, near-weights}
 use Rattle.accepted.specs.Small.{Small, map-at-most}
 use Rattle.graph.specs.Small.{small-near}
 use Rattle.graph.specs.declared.Near.{Near}
-use Rattle.low_degree.specs.Table.{three, deltasOf, teesOf, choicesOf, stepFrom}
+use Rattle.low_degree.specs.Table.{deltasOf, teesOf, choicesOf, stepFrom}
 
 -- ---- over the degree: a missing neighbour's weight is 0
 none : (t : Bool) → cond t (pos 0) (pos 0) ≡ pos 0
 none true = refl
 none false = refl
 
-chosen-three : (ws : List ℤ) (m : ℕ) → length ws ≤ 3 → chosen (three ws) m ≡ chosen ws m
+chosen-three : (ws : List ℤ) (m : ℕ) → length ws ≤ 3 → chosen (three ws (pos 0)) m ≡ chosen ws m
 unfolding chosen
 chosen-three [] m h = rw (none (odd m), none (odd (m / 2)), none (odd (m / 2 / 2)))
 chosen-three (x ∷ []) m h = rw (none (odd (m / 2)), none (odd (m / 2 / 2)))
@@ -38,8 +38,8 @@ chosen-three (x ∷ y ∷ []) m h = rw (none (odd (m / 2 / 2)))
 chosen-three (x ∷ y ∷ z ∷ []) m h = refl
 chosen-three (x ∷ y ∷ z ∷ w ∷ ws) m h = absurd (omega arith)
 
-three-same : (xs ys : List ℤ) → ((k : ℕ) → getD xs k (pos 0) ≡ getD ys k (pos 0)) → three xs ≡ three ys
-three-same xs ys h = rw (h 0, h 1, h 2)
+three-same : (xs ys : List ℤ) → ((k : ℕ) → k < 3 → getD xs k (pos 0) ≡ getD ys k (pos 0)) → three xs (pos 0) ≡ three ys (pos 0)
+three-same xs ys h = rw (h 0 (omega arith), h 1 (omega arith), h 2 (omega arith))
 
 -- ---- lists and masks that are made by a rule
 tab-same : {A : Type 0} (f h : ℕ → A) (n : ℕ) → ((m : ℕ) → m < n → f m ≡ h m) → tab f n ≡ tab h n
@@ -71,7 +71,7 @@ module _ (g : Graph) (i : ℕ) (near : Near) (is : near ≡ nearOf g i) (few : n
 
   pub deltas-table : deltasOf (lin g i) (near .weights) ≡ tab (delta g i) 8
   unfolding deltasOf
-  deltas-table = tab-same (λ m. lin g i +ℤ chosen (three (near .weights)) m) (delta g i) 8
+  deltas-table = tab-same (λ m. lin g i +ℤ chosen (three (near .weights) (pos 0)) m) (delta g i) 8
       (λ m l. ap (λ (x : ℤ). lin g i +ℤ x) (ap (λ (ws : List ℤ). chosen ws m) (three-same (near .weights) (row g i (neighbours g i)) (near-weights g i near is)) ∙ chosen-three (row g i (neighbours g i)) m row-few))
 
   pub tees-table : teesOf (tab (delta g i) 8) ≡ tab (tee g i) 8
@@ -87,7 +87,7 @@ module _ (g : Graph) (i : ℕ) (near : Near) (is : near ≡ nearOf g i) (few : n
   step-table =
       let n = near-count g i near is in
       let p : 2 ^ length (neighbours g i) ≤ 8 = few-masks (length (neighbours g i)) (omega arith) in
-      rw (n, near-list g i near is 0, near-list g i near is 1, near-list g i near is 2, choices-table (2 ^ length (neighbours g i)) p)
+      rw (n, near-list g i near is 0 (omega arith), near-list g i near is 1 (omega arith), near-list g i near is 2 (omega arith), choices-table (2 ^ length (neighbours g i)) p)
 
   pub tee-small : Within g → (m : ℕ) → ∣ tee g i m ∣ ≤ 2 ^ 43
   tee-small w m =

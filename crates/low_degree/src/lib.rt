@@ -1,7 +1,7 @@
 // Eliminating a decision that has at most two neighbours.
 ghost use mathlib.Core.Path.{_≡_};
 ghost use mathlib.Core.List.{[], _∷_};
-ghost use Prim.Native.Nat.{_<_, _≤_, _^_};
+ghost use Prim.Native.Nat.{ℕ, _<_, _≤_, _^_};
 ghost use lib.ListN.{getD, take};
 ghost use lib.IntN.{pos};
 ghost use lib.Signed.{ltZ};
@@ -12,6 +12,7 @@ ghost use Rattle.rules.specs.Record.{hold};
 ghost use Rattle.rules.specs.Size.{Within};
 ghost use Rattle.graph.specs.Held.{held};
 ghost use Rattle.graph.specs.Near.{nearOf};
+ghost use Rattle.graph.specs.Shows.{Shows};
 ghost use Rattle.accepted.specs.Small.{Small};
 ghost use Rattle.low_degree.specs.Table.{deltasOf, teesOf, choicesOf, stepFrom, Tables};
 
@@ -139,6 +140,7 @@ pub fn step_of(i: usize, near: graph::Near, deltas: [i64; 8]) -> rules::Step
 pub fn absorb(
     lin: &mut [i64; 64],
     edges: &mut [i64; 4096],
+    masks: &mut [u64; 64],
     f: graph::Frame,
     t: [i64; 8],
     count: usize,
@@ -146,7 +148,8 @@ pub fn absorb(
     k: usize,
 ) -> graph::Frame
     requires { ⌜ (j < 64) × (k < 64) × (count ≤ 2) × (∣ f .constant ∣ ≤ 2 ^ 50) × Small (2 ^ 50) (now lin) × Small (2 ^ 50) (now edges) × Small (2 ^ 50) t ⌝ }
-    ensures { λ r. ⌜ held r (now (lin .exit)) (now (edges .exit)) ≡ absorbed (λ m. getD t m (pos 0)) (take count (j ∷ k ∷ [])) (held f (now (lin .entry)) (now (edges .entry))) ⌝ }
+    ensures { λ r. ⌜ (held r (now (lin .exit)) (now (edges .exit)) ≡ absorbed (λ m. getD t m (pos 0)) (take count (j ∷ k ∷ [])) (held f (now (lin .entry)) (now (edges .entry))))
+        × ((n : ℕ) → (count ≡ 2 → (j < n) × (k < n)) → Shows n (now (edges .entry)) (now (masks .entry)) → Shows n (now (edges .exit)) (now (masks .exit))) ⌝ }
 {
     let t0 = t[0];
     let t1 = t[1];
@@ -161,7 +164,7 @@ pub fn absorb(
         return g;
     }
     graph::add_linear(&mut *lin, k, t2 - t0);
-    graph::add_edge(&mut *edges, j, k, t3 - t1 - t2 + t0);
+    graph::add_edge(&mut *edges, &mut *masks, j, k, t3 - t1 - t2 + t0);
     g
 }
 
@@ -169,12 +172,14 @@ pub fn absorb(
 pub fn eliminate(
     lin: &mut [i64; 64],
     edges: &mut [i64; 4096],
+    masks: &mut [u64; 64],
     f: graph::Frame,
     near: graph::Near,
     i: usize,
 ) -> Reduced
-    requires { ⌜ (i < 64) × (f .n ≤ 64) × Within (held f (now lin) (now edges)) × (near ≡ nearOf (held f (now lin) (now edges)) i) × (near .count ≤ 2) ⌝ }
+    requires { ⌜ (i < 64) × (f .n ≤ 64) × Within (held f (now lin) (now edges)) × (near ≡ nearOf (held f (now lin) (now edges)) i) × (near .count ≤ 2) × Shows (f .n) (now edges) (now masks) ⌝ }
     ensures { λ r. ⌜ (held (r .frame) (now (lin .exit)) (now (edges .exit)) ≡ eliminated i (held f (now (lin .entry)) (now (edges .entry))))
+        × Shows (f .n) (now (edges .exit)) (now (masks .exit))
         × (r .step ≡ hold (stepOf (held f (now (lin .entry)) (now (edges .entry))) i)) ⌝ }
 {
     let a = lin[i];
@@ -182,12 +187,12 @@ pub fn eliminate(
     let d = table.deltas;
     let t = table.tees;
     let step = step_of(i, near, d);
-    let dropped = graph::drop_to(&mut *lin, &mut *edges, f, 3, i);
+    let dropped = graph::drop_to(&mut *lin, &mut *edges, &mut *masks, f, 3, i);
     let count = near.count;
     let list = near.list;
     let j = list[0] as usize;
     let k = list[1] as usize;
-    let left = absorb(&mut *lin, &mut *edges, dropped, t, count, j, k);
+    let left = absorb(&mut *lin, &mut *edges, &mut *masks, dropped, t, count, j, k);
     Reduced {
         frame: left,
         step: step,

@@ -1,17 +1,22 @@
 -- Laws of the ring of specs/Items.antt.
-use Prim.Native.Nat.{ℕ, zero, suc, _+_, _-_, _%_, _<_}
-use mathlib.Core.Path.{_≡_, refl, ap, sym, _∙_}
+use Prim.Native.Nat.{ℕ, zero, suc, _+_, _*_, _-_, _%_, _^_, _<_}
+use mathlib.Core.Path.{_≡_, refl, ap, ap₂, sym, _∙_}
 use mathlib.Core.List.{List, [], _∷_, _++_}
-use mathlib.Core.Bool.{Bool, true, false}
+use mathlib.Core.Bool.{Bool, true, false, not, _&&_, _||_, or-false, and-true}
+use native.Mathlib.Nat.{mod-eq-of-lt, one-mul}
 use native.Mathlib.Numerals.{add-one}
 use native.Mathlib.Omega.{arith}
-use native.Mathlib.Decide.{ℕ-discrete}
+use lib.Bits.{bitAnd, bitOr, bitXor}
+use lib.Dec.{eqb}
 use lib.ListN.{getD, set, length}
+use lib.Pow.{pow-lt}
 use lib.Seq.{getD-set-same, getD-set-other}
-use borrow.Author.Tests.{ne-eqb}
-use Rattle.whole.specs.Words.{mem}
+use borrow.Author.Tests.{eqb-true}
+use Rattle.whole.specs.Masks.{bit-or, bit-less, bit-single}
+use Rattle.whole.specs.Tests.{cases}
+use Rattle.whole.specs.Words.{mem, bit}
 use Rattle.whole.specs.Pigeon.{Apart, none, one, pigeon}
-use Rattle.whole.specs.Members.{apart-new, apart-join, mem-append, in-head, in-right, out-of-cons}
+use Rattle.whole.specs.Members.{apart-new, apart-join, mem-append, out-of-cons}
 use Rattle.queue.specs.Items.{ringFrom}
 
 -- the place counts by its remainder alone
@@ -64,24 +69,24 @@ apart-more d xs a l h = apart-join a (one l refl none) (λ k m. out-of-cons k d 
     off : (k : ℕ) → mem k xs ≡ true → k ≡ d → ⊥
     off k m e = let z : _≡_ {A = Bool} true false = sym m ∙ ap (λ (j : ℕ). mem j xs) e ∙ h in mathlib.Core.Bool.true≢false z
 
--- the flags once the front has gone, and once d has joined
-module _ (flags : List Bool) (xs : List ℕ) (d : ℕ) (long : length flags ≡ 64) (l : d < 64) where
-  pub flags-less : Apart 64 (d ∷ xs) → ((k : ℕ) → k < 64 → getD flags k false ≡ mem k (d ∷ xs)) → (k : ℕ) → k < 64 → getD (set flags d false) k false ≡ mem k xs
-  unfolding mem
-  flags-less a h k lk =
-      elim (ℕ-discrete k d) [
-        | yes e ↦ rw e (getD-set-same flags d false false (omega arith) ∙ sym (apart-new a))
-        | no e ↦ getD-set-other flags d k false false e ∙ h k lk ∙ rw (ne-eqb k d e)
-      ]
+-- the mask once the front has gone, and once d has joined
+module _ (w : ℕ) (xs : List ℕ) (d : ℕ) (l : d < 64) where
+  -- 1 << d is the mask of d alone
+  abbrev single : ℕ
+  single = 1 * 2 ^ d % 2 ^ 64
 
-  pub flags-more : ((k : ℕ) → k < 64 → getD flags k false ≡ mem k xs) → (k : ℕ) → k < 64 → getD (set flags d true) k false ≡ mem k (xs ++ (d ∷ []))
+  in-single : (k : ℕ) → bit single k ≡ eqb k d
+  in-single k = ap (λ (m : ℕ). bit m k) (ap (λ (m : ℕ). m % 2 ^ 64) (one-mul (2 ^ d)) ∙ mod-eq-of-lt (pow-lt l)) ∙ bit-single d k
+
+  pub shown-less : Apart 64 (d ∷ xs) → ((k : ℕ) → k < 64 → bit w k ≡ mem k (d ∷ xs)) → (k : ℕ) → k < 64 → bit (bitXor w (bitAnd w single)) k ≡ mem k xs
   unfolding mem
-  flags-more h k lk =
-      elim (ℕ-discrete k d) [
-        | yes e ↦ rw e (getD-set-same flags d true false (omega arith) ∙ sym (in-right d xs (d ∷ []) (in-head d [])))
-        | no e ↦ getD-set-other flags d k true false e ∙ h k lk ∙ sym (mem-append k xs (d ∷ []) ∙ rw (ne-eqb k d e) (or-false (mem k xs)))
-      ]
-    where
-      or-false : (b : Bool) → mathlib.Core.Bool._||_ b false ≡ b
-      or-false true = refl
-      or-false false = refl
+  shown-less a h k lk =
+      bit-less w single k ∙ ap₂ (λ (p q : Bool). p && not q) (h k lk) (in-single k)
+      ∙ cases (eqb k d)
+      (λ e. rw e (sym (ap (λ (j : ℕ). mem j xs) (eqb-true k d e) ∙ apart-new a)))
+      (λ e. rw e (and-true (mem k xs)))
+
+  pub shown-more : ((k : ℕ) → k < 64 → bit w k ≡ mem k xs) → (k : ℕ) → k < 64 → bit (bitOr w single) k ≡ mem k (xs ++ (d ∷ []))
+  unfolding mem
+  shown-more h k lk =
+      bit-or w single k ∙ ap₂ (λ (p q : Bool). p || q) (h k lk) (in-single k ∙ sym (or-false (eqb k d))) ∙ sym (mem-append k xs (d ∷ []))

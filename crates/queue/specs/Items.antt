@@ -1,11 +1,10 @@
 -- What waits in a queue: a list, the front first.
 -- Assumes nothing.
-use Prim.Native.Nat.{ℕ, zero, suc, _%_, _<_, _≤_}
+use Prim.Native.Nat.{ℕ, zero, suc, _%_, _<_}
 use mathlib.Core.List.{List, [], _∷_}
-use mathlib.Core.Bool.{Bool, true, false}
 use mathlib.Core.Path.{_≡_}
-use lib.ListN.{getD}
-use Rattle.whole.specs.Words.{mem}
+use lib.ListN.{length, getD}
+use Rattle.whole.specs.Words.{mem, bit}
 use Rattle.whole.specs.Pigeon.{Apart}
 use Rattle.queue.specs.declared.Queue.{Queue}
 
@@ -14,11 +13,13 @@ unfoldable pub ringFrom : List ℕ → ℕ → ℕ → List ℕ
 ringFrom r h zero = []
 ringFrom r h (suc n) = getD r (h % 64) 0 ∷ ringFrom r (suc h) n
 
-abbrev pub items : Queue → List ℕ
-items q = ringFrom (q .ring) (q .head) (q .len)
+-- in its ring
+abbrev pub items : Queue → List ℕ → List ℕ
+items q ring = ringFrom ring (q .head) (q .len)
 
--- what every queue keeps: no decision waits twice, so at most 64 wait; and the flags say which
-pub record Kept (q : Queue) : Type 0 where
+-- what every queue keeps: the ring has 64 places; no decision waits twice, so at most 64 wait; and the mask says which
+pub record Kept (q : Queue) (ring : List ℕ) : Type 0 where
+  pub long : length ring ≡ 64
   pub head : q .head < 64
-  pub apart : Apart 64 (items q)
-  pub flags : (k : ℕ) → k < 64 → getD (q .waiting) k false ≡ mem k (items q)
+  pub apart : Apart 64 (items q ring)
+  pub shown : (k : ℕ) → k < 64 → bit (q .waiting) k ≡ mem k (items q ring)

@@ -12,6 +12,7 @@ use Rattle.rules.specs.declared.Counts.{Counts}
 use Rattle.rules.specs.declared.Record.{Record}
 use Rattle.rules.specs.declared.Reduction.{Reduction}
 use Rattle.state.specs.declared.State.{State}
+use Rattle.steps.specs.declared.Steps.{Steps}
 use Rattle.run.specs.declared.Ended.{Ended}
 
 pub record Gives (o : Objective) (l e : List ℤ) (r : Reduction) (l′ e′ : List ℤ) : Type 0 where
@@ -30,8 +31,8 @@ pub record Done (o : Objective) (r : Reduction) (l e : List ℤ) : Type 0 where
   pub edges : e ≡ outcome o .edges
 
 -- ---- the parts of a reduction, from where the code's run ended
-abbrev pub recordFrom : State → Record
-recordFrom s = record { n = s .frame .n; count = s .steps .count; constant = s .frame .constant; states = s .frame .states; steps = s .steps .list }
+abbrev pub recordFrom : State → Steps → Record
+recordFrom s made = record { n = s .frame .n; count = made .count; constant = s .frame .constant; states = s .frame .states; steps = made .list }
 
 abbrev pub countsFrom : State → ℕ → Counts
 countsFrom s remaining = record {
@@ -50,7 +51,7 @@ countsFrom s remaining = record {
 abbrev pub reportFrom : Ended → ℕ → Reduction
 reportFrom r remaining = record {
   answer = 0;
-  «record» = recordFrom (r .state);
+  «record» = recordFrom (r .state) (r .steps);
   counts = countsFrom (r .state) remaining;
   takes = r .state .takes;
   blocks = r .state .blocks;

@@ -21,21 +21,20 @@ use Rattle.sound_run.specs.SoundStart.{start-stands}
 use Rattle.run_laws.specs.RunEnds.{ended-few}
 use Rattle.run_laws.specs.InOrder.{Room}
 use Rattle.run_laws.specs.InOrderLaws.{ended-in-order, ended-room}
-use Rattle.graph.specs.Held.{held}
 use Rattle.outputs.specs.Out.{rest, activeOf, Places, linearAt, edgeAt}
 use Rattle.outputs.specs.declared.Remaining.{Remaining}
 use Rattle.outputs.proofs.Laws.{linear-of, edges-of}
-use Rattle.state.specs.Holds.{tallyOf}
+use Rattle.state.specs.Holds.{Lent, graphIn, tallyOf}
 use Rattle.run.specs.Going.{Ends}
 use Rattle.run.specs.declared.Ended.{Ended}
 use Rattle.reduce.specs.Gives.{Gives, Done, reportFrom}
 
 -- the run that the code made is the run of the objective
-pub ended-at : (o : Objective) (g : Graph) (r : Ended) (l e : List ℤ) → g ≡ start o → Ends (rule.run (o .budget) (o .switches) (rule.begin (o .switches) g)) r l e → Ends (rule.ended o) r l e
+pub ended-at : (o : Objective) (g : Graph) (r : Ended) (w : Lent) → g ≡ start o → Ends (rule.run (o .budget) (o .switches) (rule.begin (o .switches) g)) r w → Ends (rule.ended o) r w
 unfolding rule.ended
-ended-at o g r l e h k = subst (λ (x : Graph). Ends (rule.run (o .budget) (o .switches) (rule.begin (o .switches) x)) r l e) h k
+ended-at o g r w h k = subst (λ (x : Graph). Ends (rule.run (o .budget) (o .switches) (rule.begin (o .switches) x)) r w) h k
 
-module _ (o : Objective) (fit : Fit o) (r : Ended) (l e : List ℤ) (k : Ends (rule.ended o) r l e) where
+module _ (o : Objective) (fit : Fit o) (r : Ended) (w : Lent) (k : Ends (rule.ended o) r w) where
   S : rule.State
   S = rule.ended o .state
 
@@ -49,8 +48,8 @@ module _ (o : Objective) (fit : Fit o) (r : Ended) (l e : List ℤ) (k : Ends (r
   pub end-few : r .state .frame .n ≤ 64
   end-few = omega (arith, ap (λ (g : Graph). g .n) (k .state .graph), room .n)
 
-  pub end-steps : r .state .steps .count ≤ 64
-  end-steps = omega (arith, k .state .steps .count, room .steps)
+  pub end-steps : r .steps .count ≤ 64
+  end-steps = omega (arith, k .steps .count, room .steps)
 
   pub end-blocks : r .state .blocks ≤ 32
   end-blocks = omega (arith, k .state .blocks, room .blocks)
@@ -59,7 +58,7 @@ module _ (o : Objective) (fit : Fit o) (r : Ended) (l e : List ℤ) (k : Ends (r
   end-units = omega (arith, k .state .takes, k .state .blocks, ended-few o fit)
 
   module _ (m : Remaining) (is : rest m ≡ activeOf (r .state .frame .states) (r .state .frame .n)) (ok : Places m) where
-    listed : rest m ≡ actives (held (r .state .frame) l e)
+    listed : rest m ≡ actives (graphIn (r .state) w)
     unfolding actives
     listed = is
 
@@ -78,8 +77,8 @@ module _ (o : Objective) (fit : Fit o) (r : Ended) (l e : List ℤ) (k : Ends (r
           c,
           ss,
           remaining,
-          k .state .steps .list,
-          k .state .steps .count,
+          k .steps .list,
+          k .steps .count,
           k .state .takes,
           k .state .blocks,
           k .complete,
@@ -91,12 +90,12 @@ module _ (o : Objective) (fit : Fit o) (r : Ended) (l e : List ℤ) (k : Ends (r
           t (λ (x : rule.Tally). x .inBlocks),
         )
 
-    pub done : (z : Reduction) (l′ e′ : List ℤ) → z ≡ reportFrom r (m .len) → l′ ≡ tab (linearAt l (m .list) (m .len)) 64 → e′ ≡ tab (edgeAt e (m .list) (m .len)) 4096 → Done o z l′ e′
+    pub done : (z : Reduction) (l′ e′ : List ℤ) → z ≡ reportFrom r (m .len) → l′ ≡ tab (linearAt (w .linear) (m .list) (m .len)) 64 → e′ ≡ tab (edgeAt (w .edges) (m .list) (m .len)) 4096 → Done o z l′ e′
     unfolding outcome outcomeOf
     done z l′ e′ p q s = record {
       reduction = p ∙ reports;
-      linear = q ∙ linear-of (held (r .state .frame) l e) m ok listed ∙ ap linearOut (k .state .graph);
-      edges = s ∙ edges-of (held (r .state .frame) l e) m ok listed ∙ ap edgeOut (k .state .graph);
+      linear = q ∙ linear-of (graphIn (r .state) w) m ok listed ∙ ap linearOut (k .state .graph);
+      edges = s ∙ edges-of (graphIn (r .state) w) m ok listed ∙ ap edgeOut (k .state .graph);
     }
 
 -- the number is that of the refusal: not 0, or 0

@@ -13,6 +13,7 @@ use rules::Reduction;
 use rules::Step;
 use run::Ended;
 use state::State;
+use steps::Steps;
 
 // A refusal: its number, and nothing else.
 fn refusal_of(number: u8) -> Reduction
@@ -57,14 +58,14 @@ fn refusal_of(number: u8) -> Reduction
 }
 
 // How to grow an answer back.
-fn record_of(s: State) -> Record
-    requires { ⌜ (s .frame .n ≤ 64) × (s .steps .count ≤ 64) ⌝ }
-    ensures { λ r. ⌜ r ≡ recordFrom s ⌝ }
+fn record_of(s: State, made: Steps) -> Record
+    requires { ⌜ (s .frame .n ≤ 64) × (made .count ≤ 64) ⌝ }
+    ensures { λ r. ⌜ r ≡ recordFrom s made ⌝ }
 {
     let n = s.frame.n;
-    let count = s.steps.count;
+    let count = made.count;
     let states = s.frame.states;
-    let steps = s.steps.list;
+    let steps = made.list;
     Record {
         n: n as u8,
         count: count as u8,
@@ -94,11 +95,11 @@ fn counts_of(s: State, remaining: usize) -> Counts
 
 // "One unit per take and one per block eliminated."
 fn report(ended: Ended, remaining: usize) -> Reduction
-    requires { ⌜ (ended .state .frame .n ≤ 64) × (ended .state .steps .count ≤ 64) × (remaining ≤ 64) × (ended .state .blocks ≤ 32) × (ended .state .takes + ended .state .blocks < 4294967296) ⌝ }
+    requires { ⌜ (ended .state .frame .n ≤ 64) × (ended .steps .count ≤ 64) × (remaining ≤ 64) × (ended .state .blocks ≤ 32) × (ended .state .takes + ended .state .blocks < 4294967296) ⌝ }
     ensures { λ r. ⌜ r ≡ reportFrom ended remaining ⌝ }
 {
     let s = ended.state;
-    let record = record_of(s);
+    let record = record_of(s, ended.steps);
     let counts = counts_of(s, remaining);
     let takes = s.takes;
     let blocks = s.blocks;
@@ -131,9 +132,11 @@ fn accepted(
 {
     let mut lin = [0i64; 64];
     let mut edg = [0i64; 4096];
+    let mut masks = [0u64; 64];
     let frame = graph::begin(
         &mut lin,
         &mut edg,
+        &mut masks,
         n,
         weights,
         firsts,
@@ -141,7 +144,7 @@ fn accepted(
         term_weights,
         fixings,
     );
-    let ended = run::run(&mut lin, &mut edg, frame, switches, budget);
+    let ended = run::run(&mut lin, &mut edg, &mut masks, frame, switches, budget);
     let left = ended.state.frame;
     let rest = outputs::still_there(left);
     outputs::write_linear(&mut linear[..], &lin, rest);

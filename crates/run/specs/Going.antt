@@ -1,29 +1,32 @@
--- A run that goes on, and how the code takes a turn of it.
+-- A run that goes on, how far it has come, and where it ends.
 -- Assumes nothing.
 use mathlib.Core.Path.{_≡_}
 use mathlib.Core.Bool.{Bool, true, false}
 use mathlib.Core.List.{List}
-use Prim.Native.Nat.{ℕ}
+use Prim.Native.Nat.{ℕ, _-_, _≤_}
 use lib.IntN.{ℤ}
 use Rattle.rules.specs.Objective.{Objective}
 use Rattle.rules.specs.Fixing.{start}
+use Rattle.rules.specs.Outcome.{units}
 use Rattle.rules.specs.Run as run
-use Rattle.rules.specs.Run.{Next, over, due, next}
+use Rattle.rules.specs.Run.{over, due, next}
 use Rattle.accepted.specs.Accept.{Fit}
 use Rattle.run_laws.specs.InOrder.{InOrder}
 use Rattle.graph.specs.Held.{held}
 use Rattle.graph.specs.declared.Frame.{Frame}
-use Rattle.state.specs.Holds.{Holds}
+use Rattle.steps.specs.Kept as steps
+use Rattle.state.specs.Holds.{Lent, lent, Holds}
 use Rattle.state.specs.declared.State.{State}
+use Rattle.run.specs.declared.Come.{Come}
 use Rattle.run.specs.declared.Turned.{Turned}
 use Rattle.run.specs.declared.Ended.{Ended}
 
 -- the code holds a state of the run of some objective that is not refused
-pub record Going (s : State) (l e : List ℤ) : Type 0 where
+pub record Going (s : State) (w : Lent) : Type 0 where
   pub objective : Objective
   pub fit : Fit objective
   pub state : run.State
-  pub holds : Holds state s l e
+  pub holds : Holds state s w
   pub order : InOrder (start objective) state
 
 -- the graph that such a run starts from
@@ -32,13 +35,24 @@ pub record Started (f : Frame) (l e : List ℤ) : Type 0 where
   pub fit : Fit objective
   pub is : held f l e ≡ start objective
 
--- nothing is due and the state stays, or what is due is done
-pub record Turn (sw : ℕ) (S : run.State) (t : Turned) (l e : List ℤ) : Type 0 where
-  pub stays : t .due ≡ false → (next sw S ≡ over) × Holds S (t .state) l e
-  pub goes : t .due ≡ true → (T : run.State) × ((next sw S ≡ due T) × Holds T (t .state) l e)
+-- c is on the way to E: running the rest from here gives what running all from the start gives
+pub record Along (budget sw : ℕ) (E : run.Ended) (c : Come) (w : Lent) : Type 0 where
+  pub few : c .units ≤ budget
+  pub going : Going (c .state) w
+  pub steps : steps.Kept (c .steps) (going .state .steps)
+  pub used : units (going .state) ≤ c .units
+  pub same : E ≡ run.run (budget - c .units) sw (going .state)
 
-abbrev pub Turns : ℕ → State → List ℤ → List ℤ → Turned → List ℤ → List ℤ → Type 0
-Turns sw s l e t l′ e′ = (S : run.State) → Holds S s l e → Turn sw S t l′ e′
+-- where a run ended
+pub record Ends (E : run.Ended) (r : Ended) (w : Lent) : Type 0 where
+  pub state : Holds (E .state) (r .state) w
+  pub steps : steps.Kept (r .steps) (E .state .steps)
+  pub complete : r .complete ≡ E .complete
+
+-- nothing was due, so that it ends here, or what was due is done
+pub record Turns (budget sw : ℕ) (E : run.Ended) (t : Turned) (w : Lent) : Type 0 where
+  pub ends : t .due ≡ false → Ends E (record { complete = true; state = t .come .state; steps = t .come .steps }) w
+  pub goes : t .due ≡ true → Along budget sw E (t .come) w
 
 -- whether anything is due
 pub record Known (sw : ℕ) (S : run.State) (r : Bool) : Type 0 where
@@ -46,9 +60,4 @@ pub record Known (sw : ℕ) (S : run.State) (r : Bool) : Type 0 where
   pub yes : r ≡ true → (T : run.State) × (next sw S ≡ due T)
 
 abbrev pub Knows : ℕ → State → List ℤ → Bool → Type 0
-Knows sw s e r = (S : run.State) (l : List ℤ) → Holds S s l e → Known sw S r
-
--- where a run ended
-pub record Ends (E : run.Ended) (r : Ended) (l e : List ℤ) : Type 0 where
-  pub state : Holds (E .state) (r .state) l e
-  pub complete : r .complete ≡ E .complete
+Knows sw s e r = (S : run.State) (l : List ℤ) (m q : List ℕ) → Holds S s (lent l e m q) → Known sw S r

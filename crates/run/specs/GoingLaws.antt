@@ -33,61 +33,50 @@ use Rattle.block_elimination.specs.Block.{Eliminable}
 use Rattle.block_elimination.specs.Eliminating.{found-eliminable, members-few}
 use Rattle.block_turn.specs.Blocks as blocks
 use Rattle.take.specs.Ready as take
-use Rattle.state.specs.Holds.{tallyOf}
+use Rattle.steps.specs.Kept as steps
+use Rattle.steps.specs.declared.Steps.{Steps}
+use Rattle.state.specs.Holds.{Lent, graphIn, tallyOf}
 use Rattle.state.specs.declared.State.{State}
 use Rattle.graph.specs.declared.Frame.{Frame}
 use Rattle.sound_run.specs.SoundStart.{start-stands}
 use Rattle.run.specs.Going.{Going, Started}
 
--- a list with a member is not empty
-some-member : (k : ℕ) (xs : List ℕ) → mem k xs ≡ true → 1 ≤ length xs
-unfolding mem
-some-member k [] h = clash h refl
-some-member k (x ∷ xs) h = omega arith
-
-module _ (s : State) (l e : List ℤ) (g : Going s l e) where
+module _ (s : State) (w : Lent) (g : Going s w) where
   abbrev S : run.State
   S = g .state
 
   abbrev G : Graph
-  G = held (s .frame) l e
+  G = graphIn s w
 
   -- the code's graph is fine, and within the size rule
-  pub going-within : Within (held (s .frame) l e)
+  pub going-within : Within (graphIn s w)
   going-within = subst Within (sym (g .holds .graph)) (in-order-within (g .objective) (g .fit) (g .order))
 
-  pub going-fine : Fine (held (s .frame) l e)
+  pub going-fine : Fine (graphIn s w)
   going-fine = subst Fine (sym (g .holds .graph)) (g .order .sound .stands .fine)
 
   room : Room (g .state)
   room = in-order-room (start (g .objective)) (g .order)
 
   -- the steps so far and the active decisions are at most 64 together
-  steps-left : s .steps .count + length (actives (held (s .frame) l e)) ≤ 64
+  steps-left : length (g .state .steps) + length (actives (graphIn s w)) ≤ 64
   steps-left =
       let all = remaining-count (g .order .sound) in
       let most = pigeon (start (g .objective) .n) (actives-apart (start (g .objective))) in
       let same : S .graph .n ≡ start (g .objective) .n = g .order .sound .stands .size in
-      omega (arith, all, most, same, room .n, g .holds .steps .count, ap (λ (x : Graph). length (actives x)) (g .holds .graph))
-
-  -- an active decision has no step yet
-  free : (i : ℕ) → getD (s .frame .states) i 0 ≡ 2 → s .steps .count < 64
-  free i h =
-      let on : active G i ≡ true = eq-eqb (getD (s .frame .states) i 0) 2 h in
-      let inside : i < s .frame .n = going-fine .inside i on in
-      omega (arith, steps-left, some-member i (actives G) (to-actives G i (inside, on)))
+      omega (arith, all, most, same, room .n, ap (λ (x : Graph). length (actives x)) (g .holds .graph))
 
   counted : (f : run.Tally → ℕ) → f (tallyOf (s .tally)) ≡ f (S .counted)
   counted f = ap f (g .holds .counted)
 
-  pub going-takeable : s .takes + s .blocks < 4294967295 → s .queue .len ≢ 0 → take.Takeable s l e
+  pub going-takeable : s .takes + s .blocks < 4294967295 → s .queue .len ≢ 0 → take.Takeable s w
   going-takeable u q = record {
     someone = omega arith;
     units = omega arith;
     few = omega (arith, going-fine .shaped .few);
     within = going-within;
+    shown = g .holds .shown;
     kept = g .holds .kept;
-    room = free;
     eliminated = omega (arith, counted (λ (t : run.Tally). t .eliminated), room .eliminated);
     three = omega (arith, counted (λ (t : run.Tally). t .three), room .three);
     contracted = omega (arith, counted (λ (t : run.Tally). t .contracted), room .contracted);
@@ -96,20 +85,20 @@ module _ (s : State) (l e : List ℤ) (g : Going s l e) where
     skipped = omega (arith, counted (λ (t : run.Tally). t .skipped), room .skipped, g .holds .takes);
   }
 
-  pub going-searchable : blocks.Searchable s e
+  pub going-searchable : blocks.Searchable s (w .edges)
   unfolding neighbours
   going-searchable = record {
     few = going-fine .shaped .few;
     long = going-fine .shaped .edges-long;
-    network = λ m. neat-network (held (s .frame) l e) (going-fine .shaped) (going-fine .neat);
+    network = λ m. neat-network (graphIn s w) (going-fine .shaped) (going-fine .neat);
   }
 
-  module _ (order : List ℕ) (count : ℕ) (long : length order ≡ 64) (is : blockBy order count ≡ findBlock (held (s .frame) l e)) (some : count ≢ 0) where
-    block : Eliminable (held (s .frame) l e) order count
+  module _ (order : List ℕ) (count : ℕ) (long : length order ≡ 64) (is : blockBy order count ≡ findBlock (graphIn s w)) (some : count ≢ 0) where
+    block : Eliminable (graphIn s w) order count
     block = found-eliminable G order count (going-fine .shaped) going-within long is some
 
     -- its members are active
-    members-active : count ≤ length (actives (held (s .frame) l e))
+    members-active : count ≤ length (actives (graphIn s w))
     members-active =
         let b : List ℕ = take count order in
         let found : findBlock G ≡ members b = sym is ∙ a-block order count some in
@@ -117,11 +106,13 @@ module _ (s : State) (l e : List ℤ) (g : Going s l e) where
         let tidy = neat-tidy G (going-fine .shaped) (going-fine .neat) in
         omega (arith, size, few (actives G) (block .block .apart) (λ k m. let on : active G k ≡ true = found-live G b (going-fine .shaped) found tidy k m in to-actives G k (going-fine .inside k on, on)))
 
-    pub going-blockable : s .takes + s .blocks < 4294967295 → blocks.Takeable s l e order count
-    going-blockable u = record {
+    pub going-blockable : (before : Steps) → steps.Kept before (g .state .steps) → s .takes + s .blocks < 4294967295 → blocks.Takeable s w before order count
+    going-blockable before k u = record {
       block = block;
+      shown = g .holds .shown;
+      ring = g .holds .kept .long;
       eight = members-few block;
-      room = omega (arith, steps-left, members-active);
+      room = omega (arith, k .count, steps-left, members-active);
       members = omega (arith, counted (λ (t : run.Tally). t .inBlocks), room .inBlocks);
       eliminated = omega (arith, counted (λ (t : run.Tally). t .eliminated), room .eliminated);
       three = omega (arith, counted (λ (t : run.Tally). t .three), room .three);

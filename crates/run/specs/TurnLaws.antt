@@ -8,7 +8,6 @@ use Prim.Native.Nat.{ℕ}
 use native.Mathlib.Omega.{arith}
 use lib.Dec.{eqb}
 use lib.ListN.{length, take}
-use lib.IntN.{ℤ}
 use borrow.Author.Tests.{eqb-true, eqb-false}
 use Rattle.whole.specs.Tests.{on-not, off-not}
 use Rattle.rules.specs.Objective.{smallBlock}
@@ -16,11 +15,10 @@ use Rattle.rules.specs.Graph.{Graph}
 use Rattle.rules.specs.SmallBlock.{Block, none, members, findBlock}
 use Rattle.rules.specs.Run as run
 use Rattle.rules.specs.Run.{over, due, next, dueAt, dueBlock}
-use Rattle.graph.specs.Held.{held}
 use Rattle.queue.proofs.Laws.{ring-length}
 use Rattle.small_block.specs.Held.{blockBy}
 use Rattle.small_block.specs.Seeking.{a-block}
-use Rattle.state.specs.Holds.{Holds}
+use Rattle.state.specs.Holds.{Lent, graphIn, Holds}
 use Rattle.state.specs.declared.State.{State}
 
 -- the block that is due where nobody waits
@@ -35,9 +33,9 @@ due-by : (sw : ℕ) (S : run.State) (b : Block) → S .queue ≡ [] → dueIn sw
 unfolding dueAt
 due-by sw S b h e = ap (dueAt sw S) h ∙ ap (dueBlock sw S) e
 
-module _ (sw : ℕ) (S : run.State) (s : State) (l e : List ℤ) (h : Holds S s l e) where
+module _ (sw : ℕ) (S : run.State) (s : State) (w : Lent) (h : Holds S s w) where
   long : length (S .queue) ≡ s .queue .len
-  long = ap length (sym (h .queue)) ∙ ring-length (s .queue .ring) (s .queue .head) (s .queue .len)
+  long = ap length (sym (h .queue)) ∙ ring-length (w .ring) (s .queue .head) (s .queue .len)
 
   none-wait : s .queue .len ≡ 0 → S .queue ≡ []
   none-wait z = by (S .queue) (long ∙ z)
@@ -48,13 +46,13 @@ module _ (sw : ℕ) (S : run.State) (s : State) (l e : List ℤ) (h : Holds S s 
 
   -- someone waits: a take is due
   pub waits-due : s .queue .len ≢ 0 → (T : run.State) × (next sw S ≡ due T)
-  waits-due w = by (S .queue) refl (λ z. w (sym long ∙ z))
+  waits-due some = by (S .queue) refl (λ z. some (sym long ∙ z))
     where
       by : (q : List ℕ) → S .queue ≡ q → (length q ≡ 0 → ⊥) → (T : run.State) × (next sw S ≡ due T)
       by [] k z = absurd (z refl)
       by (i ∷ q) k z = (run.go (run.way sw (S .graph) i) sw i (run.takeFront q S), due-take sw S i q k)
 
-  module _ (order : List ℕ) (count : ℕ) (z : s .queue .len ≡ 0) (is : blockBy order count ≡ dueIn sw (held (s .frame) l e)) where
+  module _ (order : List ℕ) (count : ℕ) (z : s .queue .len ≡ 0) (is : blockBy order count ≡ dueIn sw (graphIn s w)) where
     found : dueIn sw (S .graph) ≡ blockBy order count
     found = ap (dueIn sw) (sym (h .graph)) ∙ sym is
 

@@ -3,18 +3,15 @@
 use mathlib.Core.Path.{_≡_}
 use mathlib.Core.List.{List}
 use Prim.Native.Nat.{ℕ, _+_, _<_, _≤_}
-use lib.ListN.{length, getD, take}
 use lib.IntN.{ℤ}
+use Rattle.whole.specs.Masks.{these}
 use Rattle.rules.specs.Graph.{Graph, neighbours}
 use Rattle.rules.specs.Eliminate as rule
-use Rattle.rules.specs.Record.{hold}
 use Rattle.rules.specs.Run as run
-use Rattle.rules.specs.declared.Step.{Step}
 use Rattle.queue.specs.Items.{items, Kept}
-use Rattle.steps.specs.Kept as steps
 use Rattle.graph.specs.Held.{held}
 use Rattle.graph.specs.declared.Frame.{Frame}
-use Rattle.graph.specs.declared.Near.{Near}
+use Rattle.graph.specs.Shows.{Shows}
 use Rattle.state.specs.declared.Tally.{Tally}
 use Rattle.state.specs.declared.State.{State}
 
@@ -30,29 +27,38 @@ pub record Roomy (t u : Tally) : Type 0 where
   pub weakly : t .weakly + u .weakly < 4294967296
   pub inBlocks : t .«in_blocks» + u .«in_blocks» < 4294967296
 
--- l and e are the linear weights and the edges
-pub record Holds (S : run.State) (s : State) (l e : List ℤ) : Type 0 where
-  pub graph : held (s .frame) l e ≡ S .graph
-  pub queue : items (s .queue) ≡ S .queue
-  pub kept : Kept (s .queue)
-  pub steps : steps.Kept (s .steps) (S .steps)
+-- what the code has in arrays besides a state: the linear weights, the edges, the masks, the queue's ring
+pub record Lent : Type 0 where
+  pub linear : List ℤ
+  pub edges : List ℤ
+  pub masks : List ℕ
+  pub ring : List ℕ
+
+abbrev pub lent : List ℤ → List ℤ → List ℕ → List ℕ → Lent
+lent l e m q = record { linear = l; edges = e; masks = m; ring = q }
+
+abbrev pub graphIn : State → Lent → Graph
+graphIn s w = held (s .frame) (w .linear) (w .edges)
+
+-- all but the steps, which the run keeps
+pub record Holds (S : run.State) (s : State) (w : Lent) : Type 0 where
+  pub graph : graphIn s w ≡ S .graph
+  pub shown : Shows (s .frame .n) (w .edges) (w .masks)
+  pub queue : items (s .queue) (w .ring) ≡ S .queue
+  pub kept : Kept (s .queue) (w .ring)
   pub counted : tallyOf (s .tally) ≡ S .counted
   pub takes : s .takes ≡ S .takes
   pub blocks : s .blocks ≡ S .blocks
 
 -- what the state after a reduction rests on
-pub record Reducible (s : State) (frame : Frame) (near : Near) (counts : Tally) : Type 0 where
+pub record Reducible (s : State) (frame : Frame) (counts : Tally) (ring : List ℕ) : Type 0 where
   pub few : frame .n ≤ 64
-  pub count : near .count ≤ 64
-  pub long : length (near .list) ≡ 64
-  pub below : (k : ℕ) → getD (near .list) k 0 < 64
-  pub kept : Kept (s .queue)
-  pub room : s .steps .count < 64
+  pub kept : Kept (s .queue) ring
   pub roomy : Roomy (s .tally) counts
 
--- a reduction of i that left the graph g, whose weights are l and e, with the step y: the state after it
-abbrev pub Reduces : State → Frame → Step → Near → Tally → ℕ → State → List ℤ → Type 0
-Reduces s frame step near counts sw r e =
-    (S : run.State) (l₀ e₀ l : List ℤ) (i : ℕ) (g : Graph) (y : rule.Step)
-    → Holds S s l₀ e₀ → held frame l e ≡ g → take (near .count) (near .list) ≡ neighbours (S .graph) i → step ≡ hold y
-    → Holds (run.reduced sw S i g y (tallyOf counts)) r l e
+-- a reduction of i that left the graph g, whose edges are e, with the step y: the state after it
+abbrev pub Reduces : State → Frame → ℕ → Tally → ℕ → State → List ℤ → List ℕ → List ℕ → Type 0
+Reduces s frame near counts sw r e q q′ =
+    (S : run.State) (l₀ e₀ l : List ℤ) (m₀ m : List ℕ) (i : ℕ) (g : Graph) (y : rule.Step)
+    → Holds S s (lent l₀ e₀ m₀ q) → held frame l e ≡ g → Shows (frame .n) e m → these near ≡ neighbours (S .graph) i
+    → Holds (run.reduced sw S i g y (tallyOf counts)) r (lent l e m q′)

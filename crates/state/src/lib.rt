@@ -1,17 +1,16 @@
-// A state of the run: the frame of its graph, the queue, the steps and the counts, by value. The graph's weights stay in their arrays.
+// A state of the run: the frame of its graph, the queue and the counts, by value. The weights, the masks and the queue's ring stay in their arrays.
 ghost use mathlib.Core.Path.{_≡_};
 ghost use mathlib.Core.List.{List};
-ghost use Prim.Native.Nat.{_<_, _≤_};
+ghost use Prim.Native.Nat.{ℕ, _<_, _≤_};
+ghost use lib.ListN.{length};
 ghost use lib.IntN.{ℤ};
 ghost use Rattle.rules.specs.Run as run;
 ghost use Rattle.rules.specs.Run.{plus, begin as begun};
 ghost use Rattle.graph.specs.Held.{held};
-ghost use Rattle.state.specs.Holds.{tallyOf, Roomy, Holds, Reducible, Reduces};
+ghost use Rattle.graph.specs.Shows.{Shows};
+ghost use Rattle.state.specs.Holds.{tallyOf, Roomy, Lent, lent, Holds, Reducible, Reduces};
 use graph::Frame;
-use graph::Near;
 use queue::Queue;
-use rules::Step;
-use steps::Steps;
 
 // The counts that a reduction adds to.
 pub struct Tally {
@@ -26,7 +25,6 @@ pub struct Tally {
 pub struct State {
     pub frame: Frame,
     pub queue: Queue,
-    pub steps: Steps,
     pub tally: Tally,
     pub takes: u32,
     pub blocks: u32,
@@ -48,12 +46,13 @@ pub fn more(t: Tally, u: Tally) -> Tally
 }
 
 // A state before anything is taken.
-pub fn begin(edges: &[i64; 4096], frame: Frame, switches: u32) -> State
-    requires { ⌜ frame .n ≤ 64 ⌝ }
-    ensures { λ r. ⌜ ((l : List ℤ) → Holds (begun switches (held frame l (now (edges .entry)))) r l (now (edges .entry))) × (r .frame ≡ frame) ⌝ }
+pub fn begin(edges: &[i64; 4096], ring: &mut [u8; 64], frame: Frame, switches: u32) -> State
+    requires { ⌜ (frame .n ≤ 64) × (length (now ring) ≡ 64) ⌝ }
+    ensures { λ r. ⌜ ((l : List ℤ) (m : List ℕ) → Shows (frame .n) (now (edges .entry)) m → Holds (begun switches (held frame l (now (edges .entry)))) r (lent l (now (edges .entry)) m (now (ring .exit)))) × (r .frame ≡ frame) ⌝ }
 {
     let n = frame.n;
     let states = frame.states;
+    let queue = waiting::first_queue(edges, &mut *ring, &states, n, switches);
     let none = Tally {
         eliminated: 0,
         three: 0,
@@ -62,40 +61,35 @@ pub fn begin(edges: &[i64; 4096], frame: Frame, switches: u32) -> State
         weakly: 0,
         in_blocks: 0,
     };
-    let queue = waiting::first_queue(edges, &states, n, switches);
-    let steps = steps::no_steps();
     State {
         frame: frame,
         queue: queue,
-        steps: steps,
         tally: none,
         takes: 0,
         blocks: 0,
     }
 }
 
-// After a reduction: its step, its counts, and its neighbours as they were, who may join the queue.
+// After a reduction: its counts, and its neighbours as they were, a mask of them, who may join the queue.
 pub fn reduced(
     edges: &[i64; 4096],
+    ring: &mut [u8; 64],
     s: State,
     frame: Frame,
-    step: Step,
-    near: Near,
+    near: u64,
     counts: Tally,
     switches: u32,
 ) -> State
-    requires { ⌜ Reducible s frame near counts ⌝ }
-    ensures { λ r. ⌜ Reduces s frame step near counts switches r (now (edges .entry)) ⌝ }
+    requires { ⌜ Reducible s frame counts (now ring) ⌝ }
+    ensures { λ r. ⌜ Reduces s frame near counts switches r (now (edges .entry)) (now (ring .entry)) (now (ring .exit)) ⌝ }
 {
     let n = frame.n;
     let states = frame.states;
-    let queue = waiting::rejoin(edges, &states, n, switches, s.queue, near);
-    let steps = steps::with_step(s.steps, step);
+    let queue = waiting::rejoin(edges, &mut *ring, &states, n, switches, s.queue, near);
     let tally = more(s.tally, counts);
     State {
         frame: frame,
         queue: queue,
-        steps: steps,
         tally: tally,
         takes: s.takes,
         blocks: s.blocks,
@@ -105,7 +99,7 @@ pub fn reduced(
 // "failure adds one to the skipped count"
 pub fn skip(s: State) -> State
     requires { ⌜ s .tally .skipped < 4294967295 ⌝ }
-    ensures { λ r. ⌜ ((S : run.State) (l e : List ℤ) → Holds S s l e → Holds (run.skipped S) r l e) ⌝ }
+    ensures { λ r. ⌜ ((S : run.State) (w : Lent) → Holds S s w → Holds (run.skipped S) r w) ⌝ }
 {
     let before = s.tally.skipped;
     let mut tally = s.tally;

@@ -1,4 +1,4 @@
 pub mod Ready
-pub mod NearLaws
+pub mod ReducingLaws
 pub mod ThreeLaws
 pub mod WayLaws

@@ -2,12 +2,15 @@
 use mathlib.Core.Path.{_≡_, refl, ap, ap₂, sym, _∙_}
 use mathlib.Core.Bool.{Bool, true, false, cond, not, _&&_, _||_}
 use mathlib.Core.List.{List, [], _∷_, _++_, append-nil, append-assoc}
-use Prim.Native.Nat.{ℕ, zero, suc, _+_, _-_, _<_, _≤_}
+use mathlib.Core.Logic.{_≢_}
+use Prim.Native.Nat.{ℕ, zero, suc, _+_, _-_, _^_, _<_, _≤_}
 use native.Mathlib.Omega.{arith}
 use native.Mathlib.Numerals.{add-one}
-use lib.Seq.{drop-cons}
-use lib.ListN.{length, getD, drop, drop-of-length-le}
+use lib.Bits.{bitAnd}
+use lib.Count.{trailingZeros}
+use lib.ListN.{getD}
 use borrow.Author.Tests.{eq-eqb, ne-eqb}
+use Rattle.whole.specs.Masks.{these, these-step, these-none}
 use Rattle.whole.specs.Words.{from, upto, mem, those}
 use Rattle.whole.specs.Tests.{refuse, clash}
 use Rattle.whole.specs.Members.{in-append, in-cons}
@@ -44,7 +47,7 @@ module _ (sw : ℕ) (g : Graph) (i : ℕ) where
   pub by-none : dominantEdge sw ≡ false → lowDegree sw ≡ false → false ≡ eligible sw g i
   by-none e f = ap₂ (λ (s t : Bool). s || (t && leb (degree g i) (cond (degreeThree sw) 3 2))) (sym e) (sym f)
 
--- ---- the two loops: over the decisions from i on, and over the rest of a list
+-- ---- the two loops: over the decisions from i on, and over those of a mask
 module _ (sw : ℕ) (g : Graph) where
   pub join-turn : (n i : ℕ) (q r : List ℕ) → i < n → r ≡ turn sw g q i → join sw g (from i (n - i)) q ≡ join sw g (from (i + 1) (n - (i + 1))) r
   unfolding join from
@@ -54,13 +57,13 @@ module _ (sw : ℕ) (g : Graph) where
   unfolding join from
   join-end n i q h = let d : n - i ≡ 0 = omega arith in rw d
 
-  pub join-next : (js : List ℕ) (k : ℕ) (q r : List ℕ) → k < length js → r ≡ turn sw g q (getD js k 0) → join sw g (drop k js) q ≡ join sw g (drop (k + 1) js) r
+  pub join-next : (m : ℕ) (q r : List ℕ) → m ≢ 0 → m < 2 ^ 64 → r ≡ turn sw g q (trailingZeros 64 m) → join sw g (these m) q ≡ join sw g (these (bitAnd m (m - 1))) r
   unfolding join
-  join-next js k q r h e = rw (add-one, drop-cons js k 0 h, e)
+  join-next m q r d h e = rw (these-step m (omega arith) h, e)
 
-  pub join-done : (js : List ℕ) (k : ℕ) (q : List ℕ) → length js ≤ k → join sw g (drop k js) q ≡ q
+  pub join-done : (m : ℕ) (q : List ℕ) → m ≡ 0 → join sw g (these m) q ≡ q
   unfolding join
-  join-done js k q h = rw (drop-of-length-le js h)
+  join-done m q e = rw (e, these-none)
 
   -- a pass's queue is what joins an empty one, ascending: nobody comes twice
   join-from : (c k : ℕ) (q : List ℕ) → ((j : ℕ) → mem j q ≡ true → j < k) → join sw g (from k c) q ≡ q ++ those (λ i. eligible sw g i) (those (λ i. active g i) (from k c))

@@ -1,14 +1,13 @@
 // Which decisions wait: those that a pass queues, and those that join the back after a reduction.
 ghost use mathlib.Core.Path.{_≡_};
 ghost use mathlib.Core.Bool.{cond};
-ghost use mathlib.Core.List.{List};
-ghost use Prim.Native.Nat.{ℕ, _+_, _*_, _/_, _%_, _<_, _≤_};
+ghost use Prim.Native.Nat.{_/_, _%_, _<_, _≤_};
 ghost use lib.Dec.{eqb};
-ghost use lib.ListN.{take, length, getD};
+ghost use lib.ListN.{length};
+ghost use Rattle.whole.specs.Masks.{these};
 ghost use Rattle.rules.specs.Objective.{degreeThree};
 ghost use Rattle.queue.specs.Items.{items, Kept};
 ghost use Rattle.waiting.specs.Joins.{Eligible, Waits, Joins, Listed};
-use graph::Near;
 use queue::Queue;
 
 // Is a switch on? Its place is 1, 2, 4 or 8.
@@ -45,14 +44,15 @@ pub fn is_eligible(edges: &[i64; 4096], n: usize, switches: u32, i: usize) -> bo
 // One joins the back if active, not waiting and now eligible.
 fn join_one(
     edges: &[i64; 4096],
+    ring: &mut [u8; 64],
     states: &[u8; 64],
     n: usize,
     switches: u32,
     q: Queue,
     j: usize,
 ) -> Queue
-    requires { ⌜ (n ≤ 64) × (j < 64) × Kept q ⌝ }
-    ensures { λ r. ⌜ Kept r × Listed r q switches (now (edges .entry)) n (now (states .entry)) j ⌝ }
+    requires { ⌜ (n ≤ 64) × (j < 64) × Kept q (now ring) ⌝ }
+    ensures { λ r. ⌜ Kept r (now (ring .exit)) × Listed (items r (now (ring .exit))) (items q (now (ring .entry))) switches (now (edges .entry)) n (now (states .entry)) j ⌝ }
 {
     if states[j] != 2 {
         return q;
@@ -61,44 +61,50 @@ fn join_one(
         return q;
     }
     if is_eligible(edges, n, switches, j) {
-        return q.push(j);
+        return q.push(&mut *ring, j);
     }
     q
 }
 
 // "A pass queues, ascending, every active decision that is eligible."
-pub fn first_queue(edges: &[i64; 4096], states: &[u8; 64], n: usize, switches: u32) -> Queue
-    requires { ⌜ n ≤ 64 ⌝ }
-    ensures { λ r. ⌜ Waits (items r) switches (now (edges .entry)) n (now (states .entry)) × Kept r ⌝ }
+pub fn first_queue(
+    edges: &[i64; 4096],
+    ring: &mut [u8; 64],
+    states: &[u8; 64],
+    n: usize,
+    switches: u32,
+) -> Queue
+    requires { ⌜ (n ≤ 64) × (length (now ring) ≡ 64) ⌝ }
+    ensures { λ r. ⌜ Waits (items r (now (ring .exit))) switches (now (edges .entry)) n (now (states .entry)) × Kept r (now (ring .exit)) ⌝ }
 {
     let mut q = Queue::new();
     let mut i: usize = 0;
     while i < n {
-        q = join_one(edges, states, n, switches, q, i);
+        q = join_one(edges, &mut *ring, states, n, switches, q, i);
         i = i + 1;
     }
     q
 }
 
-// "its neighbours as they were (ascending) join the back"
+// "its neighbours as they were (ascending) join the back": those of the mask.
 pub fn rejoin(
     edges: &[i64; 4096],
+    ring: &mut [u8; 64],
     states: &[u8; 64],
     n: usize,
     switches: u32,
     queue: Queue,
-    near: Near,
+    near: u64,
 ) -> Queue
-    requires { ⌜ (n ≤ 64) × (near .count ≤ 64) × (length (near .list) ≡ 64) × ((k : ℕ) → getD (near .list) k 0 < 64) × Kept queue ⌝ }
-    ensures { λ r. ⌜ Joins r queue switches (now (edges .entry)) n (now (states .entry)) (take (near .count) (near .list)) × Kept r ⌝ }
+    requires { ⌜ (n ≤ 64) × Kept queue (now ring) ⌝ }
+    ensures { λ r. ⌜ Joins (items r (now (ring .exit))) (items queue (now (ring .entry))) switches (now (edges .entry)) n (now (states .entry)) (these near) × Kept r (now (ring .exit)) ⌝ }
 {
-    let count = near.count;
     let mut q = queue;
-    let mut k: usize = 0;
-    while k < count {
-        let j = near.list[k] as usize;
-        q = join_one(edges, states, n, switches, q, j);
-        k = k + 1;
+    let mut rest = near;
+    while rest != 0 {
+        let j = u64::trailing_zeros(rest) as usize;
+        q = join_one(edges, &mut *ring, states, n, switches, q, j);
+        rest = rest & (rest - 1);
     }
     q
 }

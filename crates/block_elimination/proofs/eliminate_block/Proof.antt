@@ -7,7 +7,7 @@ use Rattle.rules.specs.Graph.{Graph}
 use Rattle.rules.specs.Eliminate as rule
 use Rattle.graph.specs.Held.{held}
 use Rattle.steps.specs.Kept.{Kept}
-use Rattle.block_elimination.specs.Eliminating.{Worked, members-few, members-low, members-listed, out-narrow, out-listed, out-beside, table-fits, block-left, block-grown}
+use Rattle.block_elimination.specs.Eliminating.{Worked, members-few, members-low, members-listed, out-narrow, out-listed, out-beside, out-both, table-fits, block-left, block-grown}
 use Rattle.block_elimination.proofs.eliminate_block.Statement.{statement}
 use Rattle.block_elimination.proofs.eliminate_block.Tie as tie
 
@@ -60,19 +60,21 @@ block-steps-requires : tie.Need-block-steps-requires
 block-steps-requires c κs = let q = c .before .before in (members-listed (s q .pre .0), out-beside (worked q), s q .pre .1)
 
 drop-all-requires : tie.Need-drop-all-requires
-drop-all-requires c κs = let w = s (c .before .before .before .before .before) .pre .0 in (members-listed w, w .few)
+drop-all-requires c κs = let p = s (c .before .before .before .before .before .before) .pre in (members-listed (p .0), p .0 .few, p .2)
 
 absorb-requires : tie.Need-absorb-requires
 absorb-requires c κs =
-    let d = c .before .before .before in
-    table-fits (worked (d .before .before .before .before .before .before)) (held (d .drop-all .result) (d .drop-all .last .0) (d .drop-all .last .1 .0)) (d .drop-all .ensures)
+    let d = c .before .before .before .before in
+    table-fits (worked (d .before .before .before .before .before .before .before)) (held (d .drop-all .result) (d .drop-all .last .0) (d .drop-all .last .1 .0)) (d .drop-all .ensures .0)
 
 returns : tie.Need-returns
 returns c =
-    let d = c .before .before .before .before in
-    let t = d .before .before .before in
-    let w = worked (t .before .before .before) in (
-      block-left w (held (d .drop-all .result) (d .drop-all .last .0) (d .drop-all .last .1 .0)) (held (c .absorb .result) (c .absorb .last .0) (c .absorb .last .1 .0)) (d .drop-all .ensures) (c .absorb .ensures),
+    let d = c .before .before .before .before .before in
+    let t = d .before .before .before .before in
+    let q = t .before .before .before in
+    let w = worked q in (
+      block-left w (held (d .drop-all .result) (d .drop-all .last .0) (d .drop-all .last .1 .0)) (held (c .absorb .result) (c .absorb .last .0) (c .absorb .last .1 .0)) (d .drop-all .ensures .0) (c .absorb .ensures .0),
+      c .absorb .ensures .1 (s q .args .f .n) (out-both w) (d .drop-all .ensures .1),
       λ ss h. subst (λ (more : List rule.Step). Kept (t .block-steps .result) (ss ++ more)) (block-grown w) (t .block-steps .ensures ss h),
     )
 

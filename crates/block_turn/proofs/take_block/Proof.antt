@@ -10,22 +10,28 @@ use Rattle.rules.specs.Graph.{Graph}
 use Rattle.rules.specs.SmallBlock.{eliminateBlock, blockSteps}
 use Rattle.rules.specs.Run as run
 use Rattle.graph.specs.Held.{held}
+use Rattle.graph.specs.Shows.{Shows}
 use Rattle.steps.specs.Kept as steps
 use Rattle.state.specs.SameN.{block-n}
 use Rattle.block_turn.proofs.take_block.Statement.{statement}
 use Rattle.block_turn.proofs.take_block.Tie as tie
 
+-- once the block has gone
+module _ (z : tie.After-eliminate-block) where
+  abbrev s : tie.Start
+  s = z .before .before .before .before .before .before
+
+  same-n : z .eliminate-block .result .frame .n ≡ s .args .s .frame .n
+  same-n =
+      let a = s .args in
+      ap (λ (x : Graph). x .n) (z .eliminate-block .ensures .0) ∙ block-n (take (a .found .count) (a .found .order)) (held (a .s .frame) (now (a .lin)) (now (a .edges)))
+
 first-queue-requires : tie.Need-first-queue-requires
-first-queue-requires c κs =
-    let z = c .before .before .before .before .before in
-    let s = z .before .before .before .before .before in
-    let a = s .args in
-    let g = held (a .s .frame) (now (a .lin)) (now (a .edges)) in
-    omega (arith, s .pre .block .few, ap (λ (x : Graph). x .n) (z .eliminate-block .ensures .0) ∙ block-n (take (a .found .count) (a .found .order)) g)
+first-queue-requires c κs = let z = c .before .before .before .before .before .before in (omega (arith, s z .pre .block .few, same-n z), s z .pre .ring)
 
 more-requires : tie.Need-more-requires
 more-requires c κs =
-    let p = c .before .before .before .before .before .before .before .before .before .before .before .pre in
+    let p = c .before .before .before .before .before .before .before .before .before .before .before .before .before .pre in
     record {
       eliminated = omega (arith, p .eliminated);
       three = omega (arith, p .three);
@@ -35,29 +41,32 @@ more-requires c κs =
       inBlocks = omega (arith, p .members, p .eight);
     }
 
-add-t21 : tie.Need-add-t21
-add-t21 c = omega (arith, c .before .before .before .before .before .before .before .before .before .before .before .before .before .pre .blocks)
+add-t27 : tie.Need-add-t27
+add-t27 c = omega (arith, c .before .before .before .before .before .before .before .before .before .before .before .before .before .before .before .pre .blocks)
 
 returns : tie.Need-returns
 unfolding run.blocked
-returns c = λ S h.
-    let z = c .before .before .before .before .before .before .before .before in
-    let s = z .before .before .before .before .before in
-    let a = s .args in
+returns c = λ S h k.
+    let z = c .before .before .before .before .before .before .before .before .before in
+    let e = z .eliminate-block in
+    let p = s z .pre in
+    let a = s z .args in
     let b = take (a .found .count) (a .found .order) in
-    let few : length b ≡ a .found .count = length-take-le (a .found .count) (a .found .order) (omega (arith, s .pre .block .long, s .pre .eight)) in
-    let left : held (z .eliminate-block .result .frame) (z .eliminate-block .last .0) (z .eliminate-block .last .1 .0) ≡ eliminateBlock b (S .graph) = z .eliminate-block .ensures .0 ∙ ap (eliminateBlock b) (h .graph) in
-    record {
-      graph = left;
-      queue = c .before .before .first-queue .ensures .0 (z .eliminate-block .result .frame .constant) (z .eliminate-block .last .0) ∙ ap (run.waiting (a .switches)) left;
-      kept = c .before .before .first-queue .ensures .1;
-      steps = subst (λ (g : Graph). steps.Kept (z .eliminate-block .result .steps) (S .steps ++ blockSteps g b 0 b)) (h .graph) (z .eliminate-block .ensures .1 (S .steps) (h .steps));
-      counted = c .before .more .ensures ∙ ap₂ (λ (t : run.Tally) (k : ℕ). run.plus t (run.tally 0 0 0 0 0 k)) (h .counted) (sym few);
-      takes = h .takes;
-      blocks = ap (λ (k : ℕ). k + 1) (h .blocks);
-    }
+    let few : length b ≡ a .found .count = length-take-le (a .found .count) (a .found .order) (omega (arith, p .block .long, p .eight)) in
+    let left : held (e .result .frame) (e .last .0) (e .last .1 .0) ≡ eliminateBlock b (S .graph) = e .ensures .0 ∙ ap (eliminateBlock b) (h .graph) in (
+      record {
+        graph = left;
+        shown = subst (λ (n : ℕ). Shows n (e .last .1 .0) (e .last .1 .1 .0)) (sym (same-n z)) (e .ensures .1);
+        queue = c .before .before .first-queue .ensures .0 (e .result .frame .constant) (e .last .0) ∙ ap (run.waiting (a .switches)) left;
+        kept = c .before .before .first-queue .ensures .1;
+        counted = c .before .more .ensures ∙ ap₂ (λ (t : run.Tally) (k : ℕ). run.plus t (run.tally 0 0 0 0 0 k)) (h .counted) (sym few);
+        takes = h .takes;
+        blocks = ap (λ (k : ℕ). k + 1) (h .blocks);
+      },
+      subst (λ (g : Graph). steps.Kept (e .result .steps) (S .steps ++ blockSteps g b 0 b)) (h .graph) (e .ensures .2 (S .steps) k),
+    )
 
 pub take-block-spec : {M : Type 1} → statement M
 take-block-spec =
     tie.close
-    (tie.spec (λ c κs. search needs) first-queue-requires (λ c. search needs) more-requires add-t21 returns)
+    (tie.spec (λ c κs. search needs) first-queue-requires (λ c. search needs) more-requires add-t27 returns)

@@ -14,7 +14,7 @@ use Rattle.degree_three.proofs.absorb_three.Statement.{statement}
 use Rattle.degree_three.proofs.absorb_three.Tie as tie
 
 abbrev entry : tie.Start → ℕ → ℤ
-entry s m = getD (s .args .t5) m (pos 0)
+entry s m = getD (s .args .t6) m (pos 0)
 
 kept : (s : tie.Start) (m : ℕ) → toZ w64 (ofZ w64 (entry s m)) ≡ entry s m
 kept s m = read (entry s m) (omega (arith, s .pre .4 .each m))
@@ -52,18 +52,20 @@ add-linear-requires-3 c κs =
 
 returns : tie.Need-returns
 returns c =
-    let s = c .before .before .before .before .before .before .before .before .before .before .before .before .before .before in
+    let s = c .before .before .before .before .before .before .before .before .before .before .before .before .before .before .before in
     let a = s .args in
-    let g = c .before .before .before .before .before .before .before .before .add-constant in
-    let l₁ = c .before .before .before .before .before .before .add-linear in
-    let l₂ = c .before .before .before .before .add-linear2 in
-    let l₃ = c .before .before .add-linear3 in
-    absorb-made (entry s) (a .near .list) (a .f) (g .result) (now (a .lin)) (l₁ .last .0) (l₂ .last .0) (l₃ .last .0) (now (a .edges)) (c .add-pairs .last .0)
-    (rw (kept s 0) at (g .ensures))
-    (rw (kept s 1) at (l₁ .ensures))
-    (rw (kept s 2) at (l₂ .ensures))
-    (rw (kept s 4) at (l₃ .ensures))
-    (c .add-pairs .ensures)
+    let g = c .before .before .before .before .before .before .before .before .before .add-constant in
+    let l₁ = c .before .before .before .before .before .before .before .add-linear in
+    let l₂ = c .before .before .before .before .before .add-linear2 in
+    let l₃ = c .before .before .before .add-linear3 in (
+      absorb-made (entry s) (a .near .list) (a .f) (g .result) (now (a .lin)) (l₁ .last .0) (l₂ .last .0) (l₃ .last .0) (now (a .edges)) (c .add-pairs .last .0)
+          (rw (kept s 0) at (g .ensures))
+          (rw (kept s 1) at (l₁ .ensures))
+          (rw (kept s 2) at (l₂ .ensures))
+          (rw (kept s 4) at (l₃ .ensures))
+          (c .add-pairs .ensures .0),
+      c .add-pairs .ensures .1,
+    )
 
 pub absorb-three-spec : {M : Type 1} → statement M
 absorb-three-spec =

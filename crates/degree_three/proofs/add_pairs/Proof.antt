@@ -3,6 +3,7 @@ use Rattle.graph.specs.HeldLaws.{edge-gain}
 use Rattle.degree_three.specs.declared.Pair.{Pair}
 use Rattle.rules.specs.DegreeThree.{pairs, addPairs}
 use Rattle.rules.specs.Graph.{graph, addEdge}
+use Rattle.graph.specs.Shows.{Shows}
 use Rattle.accepted.specs.Small.{Small, small-more, small-gains}
 use Rattle.low_degree.proofs.Laws.{read, gain-fits}
 use lib.IntN.{ℤ, pos}
@@ -16,15 +17,16 @@ use Rattle.degree_three.proofs.add_pairs.Statement.{statement}
 use Rattle.degree_three.proofs.add_pairs.Tie as tie
 
 abbrev Inv-loop : tie.InvT-loop
-Inv-loop edges₀ entries list p₀ edges p =
+Inv-loop edges₀ masks₀ entries list p₀ edges masks p =
     (p ≤ 3) × Small (2 ^ 50 + p * 2 ^ 54) edges
     × ((n : ℕ) (c : ℤ) (l : List ℤ) (ss : List ℕ) → addPairs (λ m. getD entries m (pos 0)) list pairs (graph n c l edges₀ ss) ≡ addPairs (λ m. getD entries m (pos 0)) list (drop p pairs) (graph n c l edges ss))
+    × ((n : ℕ) → ((k : ℕ) → k < 3 → getD list k 0 < n) → Shows n edges₀ masks₀ → Shows n edges masks)
 
 abbrev μ-loop : tie.MeasureT-loop
-μ-loop edges₀ entries list p₀ edges p = 3 - p
+μ-loop edges₀ masks₀ entries list p₀ edges masks p = 3 - p
 
 loop-holds : tie.Need-loop-holds Inv-loop μ-loop
-loop-holds c = (omega arith, c .before .pre .1, λ n b l ss. refl)
+loop-holds c = (omega arith, c .before .pre .1, λ n b l ss. refl, λ n h w. w)
 
 -- the pair at hand is one of the three
 low-few : (c : tie.After-pair-at Inv-loop μ-loop) → c .pair-at .result .low < 3
@@ -56,29 +58,30 @@ array-copy-out-v c = mask-few c
 
 add-edge-requires : tie.Need-add-edge-requires Inv-loop μ-loop
 add-edge-requires c κs =
-    let s = c .before .before .before .before .before .before in
-    let l = c .before .before .before .before .loop in
-    let r = c .before .before .pair-at .result in
+    let s = c .before .before .before .before .before .before .before in
+    let l = c .before .before .before .before .before .loop in
+    let r = c .before .before .before .pair-at .result in
     let j = getD (s .args .near .list) (r .low) 0 in
     let k = getD (s .args .near .list) (r .high) 0 in
-    let v = getD (s .args .t3) (r .mask) (pos 0) in
+    let v = getD (s .args .t4) (r .mask) (pos 0) in
     let h = s .pre .2 .each (r .mask) in
     rw (read v (omega arith))
     (s .pre .0 (r .low), s .pre .0 (r .high), gain-fits (64 * j + k) v (l .inv .1) (omega arith) (omega arith), gain-fits (64 * k + j) v (l .inv .1) (omega arith) (omega arith))
 
 loop-again : tie.Need-loop-again Inv-loop μ-loop
 loop-again c =
-    let s = c .before .before .before .before .before .before .before in
-    let l = c .before .before .before .before .before .loop in
-    let q = c .before .before .before .pair-at in
+    let s = c .before .before .before .before .before .before .before .before in
+    let l = c .before .before .before .before .before .before .loop in
+    let here = c .before .before .before .before in
+    let q = here .pair-at in
     let r = q .result in
     let list = s .args .near .list in
     let j = getD list (r .low) 0 in
     let k = getD list (r .high) 0 in
-    let v = getD (s .args .t3) (r .mask) (pos 0) in
+    let v = getD (s .args .t4) (r .mask) (pos 0) in
     let h = s .pre .2 .each (r .mask) in
-    let e = rw (read v (omega arith)) at (c .add-edge .ensures) in
-    let E : ℕ → ℤ = λ m. getD (s .args .t3) m (pos 0) in (
+    let e = rw (read v (omega arith)) at (c .add-edge .ensures .0) in
+    let E : ℕ → ℤ = λ m. getD (s .args .t4) m (pos 0) in (
       omega arith,
       subst (Small (2 ^ 50 + (l .p + 1) * 2 ^ 54)) (sym e) (small-more (2 ^ 50 + (l .p + 1) * 2 ^ 54) (small-gains (64 * j + k) (64 * k + j) v (l .inv .1) h) (omega arith)),
       λ n b x ss.
@@ -86,13 +89,14 @@ loop-again c =
           ∙ pairs-turn E list (l .p) (graph n b x (l .edges) ss) (omega arith)
           ∙ ap (addPairs E list (drop (l .p + 1) pairs))
           (subst (λ (y : Pair). addEdge (getD list (y .low) 0) (getD list (y .high) 0) (E (y .mask)) (graph n b x (l .edges) ss) ≡ graph n b x (c .add-edge .last .0) ss) (q .ensures) (edge-gain n b x (l .edges) ss v (c .add-edge .last .0) j k e)),
+      λ n f w. c .add-edge .ensures .1 n (f (r .low) (low-few here)) (f (r .high) (high-few here)) (l .inv .3 n f w),
     )
 
 returns : tie.Need-returns Inv-loop μ-loop
 returns c =
     let s = c .before .before .before in
     let l = c .before .loop in
-    λ n b x ss. sym (l .inv .2 n b x ss ∙ pairs-end (λ m. getD (s .args .t3) m (pos 0)) (s .args .near .list) (l .p) (graph n b x (l .edges) ss) (omega arith))
+    (λ n b x ss. sym (l .inv .2 n b x ss ∙ pairs-end (λ m. getD (s .args .t4) m (pos 0)) (s .args .near .list) (l .p) (graph n b x (l .edges) ss) (omega arith)), l .inv .3)
 
 pub add-pairs-spec : {M : Type 1} → statement M
 add-pairs-spec =

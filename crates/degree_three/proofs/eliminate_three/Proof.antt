@@ -5,7 +5,7 @@ use Rattle.low_degree.specs.Table.{stepFrom}
 use Rattle.low_degree.specs.TableLaws.{table-asks, step-table, tee-small}
 use Rattle.graph.proofs.Laws.{zero-is, zero-not}
 use Rattle.graph.specs.Held.{held}
-use Rattle.graph.specs.NearLaws.{near-below}
+use Rattle.graph.specs.NearLaws.{near-below, near-inside}
 use Rattle.accepted.specs.Small.{Small, small-more, small-tab}
 use Rattle.graph.specs.Small.{dropped-constant, dropped-linear, dropped-edges}
 use Rattle.rules.specs.Graph.{Graph}
@@ -74,36 +74,37 @@ returns c =
     let s = start m in
     let g = before s in
     let q : cubic g (s .args .i) ≡ true = sym (last m) ∙ zero-not (getD (m .moebius .result) 7 (pos 0)) (c .if1 .taken) in
-    (sym q, sym (ap (λ (b : Bool). cond b g (eliminate3 (s .args .i) g)) q), sym (ap (λ (b : Bool). cond b noStep (hold (stepOf g (s .args .i)))) q))
+    (sym q, sym (ap (λ (b : Bool). cond b g (eliminate3 (s .args .i) g)) q), s .pre .5, sym (ap (λ (b : Bool). cond b noStep (hold (stepOf g (s .args .i)))) q))
 
 absorb-three-requires : tie.Need-absorb-three-requires
 absorb-three-requires c κs =
-    let m = c .before .before .before .before .before .before .before .before in
+    let m = c .before .before .before .before .before .before .before .before .before .before in
     let s = start m in
     let a = s .args in
     let g = before s in
-    let d = c .before .before .drop-to in
+    let d = c .before .before .before .drop-to in
     let after = held (d .result) (d .last .0) (d .last .1 .0) in (
       near-below g (a .i) (a .near) (s .pre .3) (s .pre .1),
-      omega (arith, dropped-constant 3 (a .i) g after (d .ensures) (s .pre .2)),
-      small-more (2 ^ 50) (dropped-linear 3 (a .i) g after (d .ensures) (s .pre .2)) (omega arith),
-      small-more (2 ^ 50) (dropped-edges 3 (a .i) g after (d .ensures) (s .pre .2)) (omega arith),
+      omega (arith, dropped-constant 3 (a .i) g after (d .ensures .0) (s .pre .2)),
+      small-more (2 ^ 50) (dropped-linear 3 (a .i) g after (d .ensures .0) (s .pre .2)) (omega arith),
+      small-more (2 ^ 50) (dropped-edges 3 (a .i) g after (d .ensures .0) (s .pre .2)) (omega arith),
       subst (Small (2 ^ 54)) (sym (entries-are m)) (small-more (2 ^ 54) (entries-small (tee g (a .i)) (small s)) (omega arith)),
     )
 
 returns-2 : tie.Need-returns-2
 returns-2 c =
-    let m = c .before .before .before .before .before .before .before .before .before in
+    let m = c .before .before .before .before .before .before .before .before .before .before .before in
     let s = start m in
     let a = s .args in
     let g = before s in
-    let d = c .before .before .before .drop-to in
+    let d = c .before .before .before .before .drop-to in
     let x = getD (m .moebius .result) 7 (pos 0) in
-    let q : cubic g (a .i) ≡ false = sym (last m) ∙ zero-is x (c .before .before .before .before .before .before .before .before .cube .given) (c .before .before .before .before .before .before .before .if1 .left) in (
+    let q : cubic g (a .i) ≡ false = sym (last m) ∙ zero-is x (c .before .before .before .before .before .before .before .before .before .before .cube .given) (c .before .before .before .before .before .before .before .before .before .if1 .left) in (
       sym q,
-      eliminated g (a .i) (a .near) (s .pre .3) (held (d .result) (d .last .0) (d .last .1 .0)) _ (m .moebius .result) (entries-are m) (d .ensures) (c .absorb-three .ensures)
+      eliminated g (a .i) (a .near) (s .pre .3) (held (d .result) (d .last .0) (d .last .1 .0)) _ (m .moebius .result) (entries-are m) (d .ensures .0) (c .absorb-three .ensures .0)
           ∙ sym (ap (λ (b : Bool). cond b g (eliminate3 (a .i) g)) q),
-      c .before .before .before .before .before .before .step-of .ensures
+      c .absorb-three .ensures .1 (a .f .n) (λ k h. near-inside g (a .i) (a .near) (s .pre .3) k h (omega (arith, s .pre .4))) (d .ensures .1),
+      c .before .before .before .before .before .before .before .before .step-of .ensures
           ∙ ap (stepFrom (a .i) (a .near)) (table (m .before .before .before) .0)
           ∙ step-table g (a .i) (a .near) (s .pre .3) (few s)
           ∙ sym (ap (λ (b : Bool). cond b noStep (hold (stepOf g (a .i)))) q),

@@ -1,59 +1,69 @@
 use Rattle.whole.specs.Parts.{∣_∣}
-use Rattle.dominant_edge.proofs.Finding.{negatives-turn, positives-turn, negatives-end, positives-end, sum-next, sum-end, Turn, made}
+use Rattle.dominant_edge.proofs.Taking.{turns, low, left-fits, one-more}
+use Rattle.dominant_edge.proofs.Finding.{edgesTo, negatives-turn, positives-turn, negatives-end, positives-end, sum-next, sum-end, Turn, made}
 use Rattle.rules.specs.DominantEdge.{negatives, positives}
-use Rattle.rules.specs.Graph.{lin, edge, row, neighbours}
-use Rattle.graph.specs.NearLaws.{length-map, near-count, near-weights}
+use Rattle.rules.specs.Graph.{lin, neighbours}
 use Rattle.whole.specs.Ints.{rd}
 use Rattle.whole.specs.Words.{below0, above0}
+use Rattle.whole.specs.Masks.{these, rest-less}
+use lib.Count.{trailingZeros}
 use lib.IntN.{ℤ, pos, _+ℤ_}
-use lib.ListN.{length, getD, drop}
+use lib.ListN.{getD}
 use mir.Syntax.{w64}
 use mir.Val.{toZ, ofZ}
+use denote.Ref.{now}
 use mathlib.Core.List.{List}
-use mathlib.Core.Path.{_≡_, refl, sym, ap, _∙_}
+use mathlib.Core.Path.{_≡_, refl, sym, ap₂, _∙_}
 use native.Mathlib.Omega.{arith}
-use Prim.Native.Nat.{ℕ, _+_, _*_, _-_, _^_, _<_, _≤_}
+use Prim.Native.Nat.{ℕ, _+_, _*_, _^_, _<_, _≤_}
 use borrow.Author.Needs.{needs}
 use Rattle.dominant_edge.proofs.bounds_of.Statement.{statement}
 use Rattle.dominant_edge.proofs.bounds_of.Tie as tie
 
 abbrev Inv-loop : tie.InvT-loop
-Inv-loop a count weights lo₀ hi₀ k₀ lo hi k =
-    (k ≤ count) × (∣ toZ w64 lo ∣ ≤ 1099511627776 + k * 2199023255552) × (∣ toZ w64 hi ∣ ≤ 1099511627776 + k * 2199023255552)
-    × ((ws : List ℤ) → count ≡ length ws → ((m : ℕ) → getD weights m (pos 0) ≡ getD ws m (pos 0))
-    → (toZ w64 lo +ℤ negatives (drop k ws) ≡ toZ w64 a +ℤ negatives ws) × (toZ w64 hi +ℤ positives (drop k ws) ≡ toZ w64 a +ℤ positives ws))
+Inv-loop edges a m i lo₀ hi₀ rest₀ lo hi rest =
+    (rest < 2 ^ 64) × (∣ toZ w64 lo ∣ ≤ 1099511627776 + turns rest * 2199023255552) × (∣ toZ w64 hi ∣ ≤ 1099511627776 + turns rest * 2199023255552)
+    × (toZ w64 lo +ℤ negatives (edgesTo edges i (these rest)) ≡ toZ w64 a +ℤ negatives (edgesTo edges i (these m)))
+    × (toZ w64 hi +ℤ positives (edgesTo edges i (these rest)) ≡ toZ w64 a +ℤ positives (edgesTo edges i (these m)))
 
 abbrev μ-loop : tie.MeasureT-loop
-μ-loop a count weights lo₀ hi₀ k₀ lo hi k = count - k
+μ-loop edges a m i lo₀ hi₀ rest₀ lo hi rest = rest
 
 loop-holds : tie.Need-loop-holds Inv-loop μ-loop
 loop-holds c =
-    let s = c .before in
-    let h : ∣ toZ w64 (ofZ w64 (s .args .a)) ∣ ≤ 1099511627776 = rw (rd (s .fits .a)) (s .pre .0) in
-    (omega arith, h, h, λ ws l e. (refl, refl))
+    let h : ∣ toZ w64 (ofZ w64 (c .args .a)) ∣ ≤ 1099511627776 = rw (rd (c .fits .a)) (c .pre .1) in
+    (omega arith, omega arith, omega arith, refl, refl)
+
+low-in : (c : tie.In-loop Inv-loop μ-loop) → trailingZeros 64 (c .before .loop .rest) < 64
+low-in c = low (c .before .loop .rest) (c .loop-test .taken) (c .before .loop .inv .0)
 
 -- a turn's numbers
-abbrev weight : tie.After-smaller Inv-loop μ-loop → ℤ
-weight c = getD (c .before .before .before .before .before .args .near .weights) (c .before .before .before .loop .k) (pos 0)
-
-abbrev bound : tie.After-smaller Inv-loop μ-loop → ℕ
-bound c = 1099511627776 + c .before .before .before .loop .k * 2199023255552
-
 module _ (c : tie.After-smaller Inv-loop μ-loop) where
+  abbrev start : tie.Start Inv-loop μ-loop
+  start = c .before .before .before .before
+
+  abbrev rest : ℕ
+  rest = c .before .before .before .loop .rest
+
+  abbrev weight : ℤ
+  weight = getD (now (start .args .edges)) (64 * start .args .i + trailingZeros 64 rest) (pos 0)
+
+  abbrev bound : ℕ
+  bound = 1099511627776 + turns rest * 2199023255552
+
   abbrev l : ℤ
   l = toZ w64 (c .before .before .before .loop .lo)
 
   abbrev h : ℤ
   h = toZ w64 (c .before .before .before .loop .hi)
 
-  in-bound : bound c ≤ 2 ^ 50
-  in-bound = let s = c .before .before .before .before .before in omega (arith, s .pre .2)
+  in-bound : bound ≤ 2 ^ 50
+  in-bound = omega arith
 
-  abbrev turn : Turn l h (weight c) (c .smaller .result) (bound c)
+  abbrev turn : Turn l h weight (c .smaller .result) bound
   turn =
-      let s = c .before .before .before .before .before in
-      let i = c .before .before .before .loop in
-      made l h (weight c) (c .smaller .result) (bound c) (i .inv .1) (i .inv .2) (s .pre .1 .each (i .k)) in-bound (c .smaller .ensures)
+      let v = c .before .before .before .loop .inv in
+      made l h weight (c .smaller .result) bound (v .1) (v .2) (start .pre .2 .each (64 * start .args .i + trailingZeros 64 rest)) in-bound (c .smaller .ensures)
 
 sub-above : tie.Need-sub-above Inv-loop μ-loop
 sub-above c = turn c .above-fits
@@ -64,37 +74,40 @@ add-lo c = turn c .lo-fits
 add-hi : tie.Need-add-hi Inv-loop μ-loop
 add-hi c = turn c .hi-fits
 
+loop-less : tie.Need-loop-less Inv-loop μ-loop
+loop-less c = rest-less (rest c) (c .before .before .loop-test .taken) (c .before .before .before .loop .inv .0)
+
 loop-again : tie.Need-loop-again Inv-loop μ-loop
 loop-again c =
-    let i = c .before .before .before .loop in
-    let t = turn c in (
-      omega arith,
+    let v = c .before .before .before .loop .inv in
+    let d = c .before .before .loop-test .taken in
+    let e = now (start c .args .edges) in
+    let i = start c .args .i in
+    let t = turn c in
+    let one = one-more (rest c) d (v .0) in (
+      left-fits (rest c) d (v .0),
       omega (arith, t .lo-small),
       omega (arith, t .hi-small),
-      λ ws n e.
-          let lt : i .k < length ws = omega arith in
-          let v = i .inv .3 ws n e in (
-            sum-next (l c) _ (below0 (weight c)) (negatives (drop (i .k) ws)) _ _ (t .lo-next) (negatives-turn ws (i .k) lt ∙ ap (λ (z : ℤ). below0 z +ℤ negatives (drop (i .k + 1) ws)) (sym (e (i .k)))) (v .0),
-            sum-next (h c) _ (above0 (weight c)) (positives (drop (i .k) ws)) _ _ (t .hi-next) (positives-turn ws (i .k) lt ∙ ap (λ (z : ℤ). above0 z +ℤ positives (drop (i .k + 1) ws)) (sym (e (i .k)))) (v .1),
-          ),
+      sum-next (l c) _ (below0 (weight c)) _ _ _ (t .lo-next) (negatives-turn e i (rest c) d (v .0)) (v .3),
+      sum-next (h c) _ (above0 (weight c)) _ _ _ (t .hi-next) (positives-turn e i (rest c) d (v .0)) (v .4),
     )
 
 returns : tie.Need-returns Inv-loop μ-loop
 returns c =
-    let s = c .before .before .before in
+    let s = c .before .before in
     let a = s .args in
-    let i = c .before .loop in
-    let done : a .near .count ≤ i .k = omega arith in (
-      λ g d seen.
-          let ws = row g d (neighbours g d) in
-          let n : a .near .count ≡ length ws = near-count g d (a .near) (seen .around) ∙ sym (length-map (λ j. edge g d j) (neighbours g d)) in
-          let v = i .inv .3 ws n (near-weights g d (a .near) (seen .around)) in
-          let r : toZ w64 (ofZ w64 (a .a)) ≡ lin g d = rd (s .fits .a) ∙ sym (seen .weight) in (
-            sum-end (toZ w64 (i .lo)) (negatives (drop (i .k) ws)) _ (negatives-end ws (i .k) (omega arith)) (v .0 ∙ ap (λ (z : ℤ). z +ℤ negatives ws) r),
-            sum-end (toZ w64 (i .hi)) (positives (drop (i .k) ws)) _ (positives-end ws (i .k) (omega arith)) (v .1 ∙ ap (λ (z : ℤ). z +ℤ positives ws) r),
+    let v = c .before .loop .inv in
+    let rest = c .before .loop .rest in
+    let e = now (a .edges) in
+    let z = c .loop-test .left in (
+      λ g seen.
+          let r : toZ w64 (ofZ w64 (a .a)) ≡ lin g (a .i) = rd (s .fits .a) ∙ sym (seen .weight) in
+          let same : edgesTo e (a .i) (these (a .m)) ≡ edgesTo (g .edges) (a .i) (neighbours g (a .i)) = ap₂ (λ (x : List ℤ) (js : List ℕ). edgesTo x (a .i) js) (sym (seen .edges)) (seen .around) in (
+            sum-end (toZ w64 (c .before .loop .lo)) (negatives (edgesTo e (a .i) (these rest))) _ (negatives-end e (a .i) rest z) (v .3 ∙ ap₂ (λ (x : ℤ) (ws : List ℤ). x +ℤ negatives ws) r same),
+            sum-end (toZ w64 (c .before .loop .hi)) (positives (edgesTo e (a .i) (these rest))) _ (positives-end e (a .i) rest z) (v .4 ∙ ap₂ (λ (x : ℤ) (ws : List ℤ). x +ℤ positives ws) r same),
           ),
-      omega (arith, s .pre .2),
-      omega (arith, s .pre .2),
+      omega arith,
+      omega arith,
     )
 
 pub bounds-of-spec : {M : Type 1} → statement M
@@ -104,13 +117,16 @@ bounds-of-spec =
     Inv-loop
     μ-loop
     loop-holds
-    (λ c. search needs)
-    (λ c. search needs)
+    (λ c. omega (arith, low-in c))
+    (λ c. omega arith)
+    (λ c. omega (arith, low-in c))
+    (λ c. omega (arith, low-in c))
+    (λ c. omega (arith, low-in c))
     (λ c κs. search needs)
     sub-above
     add-lo
     add-hi
-    (λ c. search needs)
-    (λ c. search needs)
+    (λ c. omega arith)
+    loop-less
     loop-again
     returns)

@@ -1,23 +1,22 @@
 use Rattle.whole.specs.Parts.{∣_∣}
-use Rattle.dominant_edge.proofs.Giving.{minus, minus-fits, minus-at-most, by-turning, by-moving, step-by}
+use Rattle.dominant_edge.proofs.Giving.{minus, minus-fits, minus-at-most, mask-inside, row-small, row-gone, by-turning, by-moving, step-by}
+use Rattle.dominant_edge.specs.Answer.{Gone}
 use Rattle.low_degree.proofs.Laws.{read, sum-fits, gain-fits}
 use Rattle.rules.specs.Graph.{Graph, lin, edge}
 use Rattle.rules.specs.DominantEdge.{positive}
 use Rattle.graph.specs.Held.{held}
-use Rattle.graph.specs.NearLaws.{near-count, near-below, few-neighbours}
 use Rattle.accepted.specs.Small.{Small, small-more, small-gain}
-use Rattle.graph.specs.Small.{small-near, dropped-constant, dropped-linear, dropped-edges}
-use Rattle.graph.specs.declared.Near.{Near}
+use Rattle.graph.specs.Small.{dropped-constant, dropped-linear, dropped-edges}
 use Rattle.whole.specs.Ints.{ints}
 use lib.IntN.{ℤ, negℤ, _+ℤ_}
-use lib.ListN.{getD}
+use mathlib.Core.List.{List}
 use mir.Syntax.{w64}
 use mir.Val.{toZ, ofZ}
 use denote.Ref.{now}
 use mathlib.Core.Bool.{true, false}
 use mathlib.Core.Path.{_≡_, sym, subst}
 use native.Mathlib.Omega.{arith}
-use Prim.Native.Nat.{ℕ, _+_, _*_, _^_, _<_, _≤_}
+use Prim.Native.Nat.{_+_, _*_, _-_, _^_, _≤_}
 use borrow.Author.Needs.{needs}
 use Rattle.dominant_edge.proofs.contract.Statement.{statement}
 use Rattle.dominant_edge.proofs.contract.Tie as tie
@@ -44,36 +43,39 @@ a-read s = read (a s) (omega (arith, a-small s))
 w-read : (s : tie.Start) → toZ w64 (ofZ w64 (w s)) ≡ w s
 w-read s = read (w s) (omega (arith, w-small s))
 
--- what both walks over the neighbours ask
-count-few : (s : tie.Start) → s .args .near .count ≤ 64
-count-few s = omega (arith, near-count (before s) (s .args .i) (s .args .near) (s .pre .4), few-neighbours (before s) (s .args .i), s .pre .2)
-
-below : (s : tie.Start) (k : ℕ) → getD (s .args .near .list) k 0 < 64
-below s = near-below (before s) (s .args .i) (s .args .near) (s .pre .4) (s .pre .2)
-
-weights-small : (s : tie.Start) → Small 2199023255552 (s .args .near .weights)
-weights-small s =
-    subst (λ (x : Near). Small 2199023255552 (x .weights)) (sym (s .pre .4)) (small-near (before s) (s .args .i) (record { each = s .pre .3 .edges }))
-
 -- what is left when the decision is dropped
 abbrev start : tie.After-drop-to → tie.Start
-start c = c .before .before .before .before .before
+start c = c .before .before .before .before .before .before .before .before
 
 abbrev after : tie.After-drop-to → Graph
 after c = held (c .drop-to .result) (c .drop-to .last .0) (c .drop-to .last .1 .0)
 
+-- the row that was copied
+abbrev row : tie.After-drop-to → List ℤ
+row c = c .before .before .before .before .row-of .result
+
+row-is-small : (c : tie.After-drop-to) → Small 2199023255552 (row c)
+row-is-small c =
+    let s = start c in
+    row-small (before s) (s .args .i) (64 - s .args .f .n) (row c) (c .before .before .before .before .row-of .ensures) (s .pre .3 .edges)
+
+gone : (c : tie.After-drop-to) → Gone (row c) (start c .args .m) (before (start c)) (start c .args .i)
+gone c =
+    let s = start c in
+    row-gone (before s) (s .args .i) (64 - s .args .f .n) (row c) (c .before .before .before .before .row-of .ensures) (s .args .m) (s .pre .4)
+
 linear-small : (c : tie.After-drop-to) → Small 1099511627776 (c .drop-to .last .0)
-linear-small c = dropped-linear 3 (start c .args .i) (before (start c)) (after c) (c .drop-to .ensures) (start c .pre .3)
+linear-small c = dropped-linear 3 (start c .args .i) (before (start c)) (after c) (c .drop-to .ensures .0) (start c .pre .3)
 
 edges-small : (c : tie.After-drop-to) → Small (2 ^ 50) (c .drop-to .last .1 .0)
-edges-small c = small-more (2 ^ 50) (dropped-edges 3 (start c .args .i) (before (start c)) (after c) (c .drop-to .ensures) (start c .pre .3)) (omega arith)
+edges-small c = small-more (2 ^ 50) (dropped-edges 3 (start c .args .i) (before (start c)) (after c) (c .drop-to .ensures .0) (start c .pre .3)) (omega arith)
 
 add-constant-requires : tie.Need-add-constant-requires
 add-constant-requires c κs =
     let d = c .before in
     let s = start d in
     rw (a-read s)
-    (sum-fits (d .drop-to .result .constant) (a s) (omega (arith, dropped-constant 3 (s .args .i) (before s) (after d) (d .drop-to .ensures) (s .pre .3))) (omega (arith, a-small s)))
+    (sum-fits (d .drop-to .result .constant) (a s) (omega (arith, dropped-constant 3 (s .args .i) (before s) (after d) (d .drop-to .ensures .0) (s .pre .3))) (omega (arith, a-small s)))
 
 sub-add-linear : tie.Need-sub-add-linear
 sub-add-linear c = let s = start (c .before .before .before) in minus-fits (a s) (omega (arith, a-small s))
@@ -83,26 +85,27 @@ add-linear-requires c κs =
     let d = c .before .before .before in
     let s = start d in
     rw (minus (a s) (omega (arith, a-small s)))
-    (s .pre .1, gain-fits (s .args .j) (negℤ (a s)) (linear-small d) (omega arith) (omega (arith, minus-at-most (a s) (a-small s))))
+    (omega arith, gain-fits (s .args .j) (negℤ (a s)) (linear-small d) (omega arith) (omega (arith, minus-at-most (a s) (a-small s))))
 
 turn-edges-requires : tie.Need-turn-edges-requires
 turn-edges-requires c κs =
-    let d = c .before .before .before .before .before .before in
+    let d = c .before .before .before .before .before .before .before .before in
     let s = start d in
-    let e = rw (minus (a s) (omega (arith, a-small s))) at (c .before .before .add-linear .ensures) in
-    (s .pre .1, count-few s, below s, weights-small s, subst (Small (2 ^ 50)) (sym e) (small-more (2 ^ 50) (small-gain (s .args .j) (negℤ (a s)) (linear-small d) (minus-at-most (a s) (a-small s))) (omega arith)), edges-small d)
+    let e = rw (minus (a s) (omega (arith, a-small s))) at (c .before .before .before .before .add-linear .ensures) in
+    (omega arith, row-is-small d, subst (Small (2 ^ 50)) (sym e) (small-more (2 ^ 50) (small-gain (s .args .j) (negℤ (a s)) (linear-small d) (minus-at-most (a s) (a-small s))) (omega arith)), edges-small d)
 
 returns : tie.Need-returns
 returns c =
-    let d = c .before .before .before .before .before .before .before .before in
+    let d = c .before .before .before .before .before .before .before .before .before .before in
     let s = start d in
     let g = before s in
-    let q : positive g (s .args .i) (s .args .j) ≡ true = rw (w-read s) at (c .before .before .before .before .before .before .before .if1 .taken) in (
-      by-turning g (s .args .i) (s .args .j) (d .drop-to .result) (d .drop-to .last .0) (c .before .before .before .before .add-linear .last .0) (d .drop-to .last .1 .0) (d .drop-to .ensures)
-          (c .before .before .before .before .before .before .add-constant .result) (c .before .turn-edges .last .0) (c .before .turn-edges .last .1 .0) q
-          (rw (a-read s) at (c .before .before .before .before .before .before .add-constant .ensures))
-          (rw (minus (a s) (omega (arith, a-small s))) at (c .before .before .before .before .add-linear .ensures))
-          (c .before .turn-edges .ensures g (s .args .i) (s .pre .4)),
+    let q : positive g (s .args .i) (s .args .j) ≡ true = rw (w-read s) at (c .before .before .before .before .before .before .before .before .before .if1 .taken) in (
+      by-turning g (s .args .i) (s .args .j) (d .drop-to .result) (d .drop-to .last .0) (c .before .before .before .before .before .before .add-linear .last .0) (d .drop-to .last .1 .0) (d .drop-to .ensures .0)
+          (c .before .before .before .before .before .before .before .before .add-constant .result) (c .before .turn-edges .last .0) (c .before .turn-edges .last .1 .0) q
+          (rw (a-read s) at (c .before .before .before .before .before .before .before .before .add-constant .ensures))
+          (rw (minus (a s) (omega (arith, a-small s))) at (c .before .before .before .before .before .before .add-linear .ensures))
+          (c .before .turn-edges .ensures .0 g (s .args .i) (gone d)),
+      c .before .turn-edges .ensures .1 (s .args .f .n) (s .pre .1) (λ t. mask-inside g (s .args .i) (s .args .m) t (s .pre .4)) (d .drop-to .ensures .1),
       step-by g (s .args .i) (s .args .j) true (c .step-over .result) q (c .step-over .ensures),
     )
 
@@ -125,22 +128,22 @@ add-linear-requires-2 : tie.Need-add-linear-requires-2
 add-linear-requires-2 c κs =
     let d = c .before .before in
     let s = start d in
-    rw (gain s) (s .pre .1, gain-fits (s .args .j) (a s +ℤ w s) (linear-small d) (omega arith) (omega (arith, sum-small s)))
+    rw (gain s) (omega arith, gain-fits (s .args .j) (a s +ℤ w s) (linear-small d) (omega arith) (omega (arith, sum-small s)))
 
 move-edges-requires : tie.Need-move-edges-requires
 move-edges-requires c κs =
-    let d = c .before .before .before .before in
-    let s = start d in
-    (s .pre .1, count-few s, below s, weights-small s, edges-small d)
+    let d = c .before .before .before .before .before .before in
+    (omega arith, row-is-small d, edges-small d)
 
 returns-2 : tie.Need-returns-2
 returns-2 c =
-    let d = c .before .before .before .before .before .before in
+    let d = c .before .before .before .before .before .before .before .before in
     let s = start d in
     let g = before s in
-    let q : positive g (s .args .i) (s .args .j) ≡ false = rw (w-read s) at (c .before .before .before .before .before .if1 .left) in (
-      by-moving g (s .args .i) (s .args .j) (d .drop-to .result) (d .drop-to .last .0) (c .before .before .before .add-linear2 .last .0) (d .drop-to .last .1 .0) (d .drop-to .ensures)
-          (c .before .move-edges .last .0) q (rw (gain s) at (c .before .before .before .add-linear2 .ensures)) (c .before .move-edges .ensures g (s .args .i) (s .pre .4)),
+    let q : positive g (s .args .i) (s .args .j) ≡ false = rw (w-read s) at (c .before .before .before .before .before .before .before .if1 .left) in (
+      by-moving g (s .args .i) (s .args .j) (d .drop-to .result) (d .drop-to .last .0) (c .before .before .before .before .before .add-linear2 .last .0) (d .drop-to .last .1 .0) (d .drop-to .ensures .0)
+          (c .before .move-edges .last .0) q (rw (gain s) at (c .before .before .before .before .before .add-linear2 .ensures)) (c .before .move-edges .ensures .0 g (s .args .i) (gone d)),
+      c .before .move-edges .ensures .1 (s .args .f .n) (s .pre .1) (λ t. mask-inside g (s .args .i) (s .args .m) t (s .pre .4)) (d .drop-to .ensures .1),
       step-by g (s .args .i) (s .args .j) false (c .step-over2 .result) q (c .step-over2 .ensures),
     )
 
@@ -154,6 +157,7 @@ contract-spec =
     (λ c. search needs)
     (λ c. search needs)
     (λ c. search needs)
+    (λ c κs. search needs)
     (λ c κs. search needs)
     add-constant-requires
     sub-add-linear

@@ -1,123 +1,132 @@
 use Rattle.whole.specs.Parts.{∣_∣}
+use Rattle.dominant_edge.proofs.Taking.{low, left-fits}
 use Rattle.dominant_edge.proofs.Finding.{first-passes, first-fails, first-end, test-is}
-use Rattle.dominant_edge.proofs.Giving.{weight-is}
 use Rattle.dominant_edge.specs.Answer.{Seen, testOf, answerOf, dominantOf}
 use Rattle.dominant_edge.specs.declared.Test.{Test}
 use Rattle.dominant_edge.specs.declared.Dominant.the-variants.{Neighbour}
-use Rattle.rules.specs.DominantEdge.{at, lo, hi, weak, dominates, first, dominant}
-use Rattle.rules.specs.Graph.{Graph, neighbours}
-use Rattle.graph.specs.NearLaws.{near-count, near-list}
+use Rattle.rules.specs.DominantEdge.{weak, dominates, first, dominant}
+use Rattle.rules.specs.Graph.{Graph}
+use Rattle.whole.specs.Masks.{these, rest-less}
 use Rattle.low_degree.proofs.Laws.{read}
 use Rattle.whole.specs.Ints.{rd}
+use lib.Count.{trailingZeros}
 use lib.IntN.{ℤ, pos}
-use lib.ListN.{length, getD, drop}
+use lib.ListN.{getD}
 use mir.Syntax.{w64}
 use mir.Val.{toZ, ofZ}
-use mathlib.Core.Path.{_≡_, refl, sym, ap, ap₂, _∙_}
+use denote.Ref.{now}
+use mathlib.Core.List.{List}
+use mathlib.Core.Path.{_≡_, refl, sym, ap, _∙_}
 use native.Mathlib.Omega.{arith}
-use Prim.Native.Nat.{ℕ, _-_, _^_, _<_, _≤_}
-use borrow.Author.Needs.{needs}
+use Prim.Native.Nat.{ℕ, _+_, _*_, _^_, _<_, _≤_}
 use Rattle.dominant_edge.proofs.dominant_neighbour.Statement.{statement}
 use Rattle.dominant_edge.proofs.dominant_neighbour.Tie as tie
 
 abbrev Inv-loop : tie.InvT-loop
-Inv-loop a lo hi count list weights k₀ k =
-    (k ≤ count)
-    × ((g : Graph) (i : ℕ) → Seen (toZ w64 a) (record { list = list; weights = weights; count = count }) g i → first (dominates g i) (neighbours g i) ≡ first (dominates g i) (drop k (neighbours g i)))
+Inv-loop edges a m i lo hi rest₀ rest =
+    (rest < 2 ^ 64) × ((g : Graph) → Seen (toZ w64 a) m i edges g → first (dominates g i) (these m) ≡ first (dominates g i) (these rest))
 
 abbrev μ-loop : tie.MeasureT-loop
-μ-loop a lo hi count list weights k₀ k = count - k
+μ-loop edges a m i lo hi rest₀ rest = rest
 
 bounds-of-requires : tie.Need-bounds-of-requires Inv-loop μ-loop
 bounds-of-requires c κs = rw (rd (c .fits .a)) (c .pre .0, c .pre .1, c .pre .2)
 
 loop-holds : tie.Need-loop-holds Inv-loop μ-loop
-loop-holds c = (omega arith, λ g i seen. refl)
+loop-holds c = (omega arith, λ g seen. refl)
+
+low-in : (c : tie.In-loop Inv-loop μ-loop) → trailingZeros 64 (c .before .loop .rest) < 64
+low-in c = low (c .before .loop .rest) (c .loop-test .taken) (c .before .loop .inv .0)
 
 -- the numbers of a turn, read back from their locals
-abbrev start : tie.After-w Inv-loop μ-loop → tie.Start Inv-loop μ-loop
-start c = c .before .before .before .before .before .before .before .before
-
-abbrev low : tie.After-w Inv-loop μ-loop → ℤ
-low c = c .before .before .before .before .before .before .before .bounds-of .result .lo
-
-abbrev high : tie.After-w Inv-loop μ-loop → ℤ
-high c = c .before .before .before .before .before .before .before .bounds-of .result .hi
-
-abbrev weight : tie.After-w Inv-loop μ-loop → ℤ
-weight c = getD (start c .args .near .weights) (c .before .before .loop .k) (pos 0)
-
 module _ (c : tie.After-w Inv-loop μ-loop) where
-  low-small : ∣ low c ∣ ≤ 2 ^ 50
-  low-small = c .before .before .before .before .before .before .before .bounds-of .ensures .1
+  abbrev start : tie.Start Inv-loop μ-loop
+  start = c .before .before .before .before .before .before
 
-  high-small : ∣ high c ∣ ≤ 2 ^ 50
-  high-small = c .before .before .before .before .before .before .before .bounds-of .ensures .2
+  abbrev at : ℕ
+  at = trailingZeros 64 (c .before .before .loop .rest)
 
-  weight-small : ∣ weight c ∣ ≤ 2199023255552
-  weight-small = start c .pre .1 .each (c .before .before .loop .k)
+  abbrev low-bound : ℤ
+  low-bound = c .before .before .before .before .before .bounds-of .result .lo
 
-  low-read : toZ w64 (ofZ w64 (low c)) ≡ low c
-  low-read = read (low c) (omega (arith, low-small))
+  abbrev high-bound : ℤ
+  high-bound = c .before .before .before .before .before .bounds-of .result .hi
 
-  high-read : toZ w64 (ofZ w64 (high c)) ≡ high c
-  high-read = read (high c) (omega (arith, high-small))
+  abbrev weight : ℤ
+  weight = getD (now (start .args .edges)) (64 * start .args .i + at) (pos 0)
 
-  weight-read : toZ w64 (ofZ w64 (weight c)) ≡ weight c
-  weight-read = read (weight c) (omega (arith, weight-small))
+  low-small : ∣ low-bound ∣ ≤ 2 ^ 50
+  low-small = c .before .before .before .before .before .bounds-of .ensures .1
+
+  high-small : ∣ high-bound ∣ ≤ 2 ^ 50
+  high-small = c .before .before .before .before .before .bounds-of .ensures .2
+
+  weight-small : ∣ weight ∣ ≤ 2199023255552
+  weight-small = start .pre .2 .each (64 * start .args .i + at)
+
+  low-read : toZ w64 (ofZ w64 low-bound) ≡ low-bound
+  low-read = read low-bound (omega (arith, low-small))
+
+  high-read : toZ w64 (ofZ w64 high-bound) ≡ high-bound
+  high-read = read high-bound (omega (arith, high-small))
+
+  weight-read : toZ w64 (ofZ w64 weight) ≡ weight
+  weight-read = read weight (omega (arith, weight-small))
 
 test-edge-requires : tie.Need-test-edge-requires Inv-loop μ-loop
 test-edge-requires c κs = rw (low-read c, high-read c, weight-read c) (low-small c, high-small c, weight-small c)
 
 -- the test at hand is the rules' of the neighbour at hand
-tested : (c : tie.After-test-edge Inv-loop μ-loop) (g : Graph) (i : ℕ) → Seen (toZ w64 (ofZ w64 (start (c .before) .args .a))) (start (c .before) .args .near) g i
-    → (c .test-edge .result .passes ≡ dominates g i (getD (neighbours g i) (c .before .before .before .loop .k) 0)) × (c .test-edge .result .weak ≡ weak g i (getD (neighbours g i) (c .before .before .before .loop .k) 0))
-tested c g i seen =
+tested : (c : tie.After-test-edge Inv-loop μ-loop) (g : Graph) → let s = start (c .before) in Seen (toZ w64 (ofZ w64 (s .args .a))) (s .args .m) (s .args .i) (now (s .args .edges)) g
+    → (c .test-edge .result .passes ≡ dominates g (s .args .i) (at (c .before))) × (c .test-edge .result .weak ≡ weak g (s .args .i) (at (c .before)))
+tested c g seen =
     let d = c .before in
-    let k = d .before .before .loop .k in
-    let near = start d .args .near in
-    let e : c .test-edge .result ≡ testOf (low d) (high d) (weight d) = rw (low-read d, high-read d, weight-read d) at (c .test-edge .ensures) in
-    let b = d .before .before .before .before .before .before .before .bounds-of .ensures .0 g i seen in
-    let t = test-is g i (getD (neighbours g i) k 0) (low d) (high d) (weight d) (b .0) (b .1) (weight-is g i near (seen .around) k (omega arith)) in
+    let i = start d .args .i in
+    let e : c .test-edge .result ≡ testOf (low-bound d) (high-bound d) (weight d) = rw (low-read d, high-read d, weight-read d) at (c .test-edge .ensures) in
+    let b = d .before .before .before .before .before .bounds-of .ensures .0 g seen in
+    let t = test-is g i (at d) (low-bound d) (high-bound d) (weight d) (b .0) (b .1) (ap (λ (x : List ℤ). getD x (64 * i + at d) (pos 0)) (sym (seen .edges))) in
     (ap (λ (x : Test). x .passes) e ∙ t .0, ap (λ (x : Test). x .weak) e ∙ t .1)
 
-cast-j : tie.Need-cast-j Inv-loop μ-loop
-cast-j c = search (needs, start (c .before .before) .pre .3 (c .before .before .before .before .loop .k))
+-- the weight is kept and read back
+saw : (s : tie.Start Inv-loop μ-loop) (g : Graph) → Seen (s .args .a) (s .args .m) (s .args .i) (now (s .args .edges)) g → Seen (toZ w64 (ofZ w64 (s .args .a))) (s .args .m) (s .args .i) (now (s .args .edges)) g
+saw s g seen = record { weight = seen .weight ∙ sym (rd (s .fits .a)); around = seen .around; edges = seen .edges }
 
 returns : tie.Need-returns Inv-loop μ-loop
 unfolding dominantOf dominant
 returns c =
+    let n = c .before .before .before in
     let s = start (c .before .before) in
-    let l = c .before .before .before .before .loop in
-    λ g i seen.
-    let saw : Seen (toZ w64 (ofZ w64 (s .args .a))) (s .args .near) g i = record { weight = seen .weight ∙ sym (rd (s .fits .a)); around = seen .around } in
-    let js = neighbours g i in
-    let lt : l .k < length js = omega (arith, near-count g i (s .args .near) (seen .around)) in
-    let t = tested (c .before) g i saw in
-    ap₂ Neighbour (near-list g i (s .args .near) (seen .around) (l .k)) (t .1)
-    ∙ sym (ap (answerOf g i) (l .inv .1 g i saw ∙ first-passes (dominates g i) js (l .k) lt (sym (t .0) ∙ c .if1 .taken)))
+    let i = s .args .i in
+    let l = n .before .loop in
+    λ g seen.
+    let t = tested (c .before) g (saw s g seen) in
+    ap (Neighbour (at (c .before .before))) (t .1)
+    ∙ sym
+    (ap (answerOf g i)
+    (ap (first (dominates g i)) (sym (seen .around)) ∙ l .inv .1 g (saw s g seen) ∙ first-passes (dominates g i) (l .rest) (n .loop-test .taken) (l .inv .0) (sym (t .0) ∙ c .if1 .taken)))
+
+loop-less : tie.Need-loop-less Inv-loop μ-loop
+loop-less c =
+    let n = c .before .before .before in
+    rest-less (n .before .loop .rest) (n .loop-test .taken) (n .before .loop .inv .0)
 
 loop-again : tie.Need-loop-again Inv-loop μ-loop
 loop-again c =
-    let s = start (c .before .before) in
-    let l = c .before .before .before .before .loop in (
-      omega arith,
-      λ g i seen.
-          let js = neighbours g i in
-          let lt : l .k < length js = omega (arith, near-count g i (s .args .near) (seen .around)) in
-          l .inv .1 g i seen ∙ first-fails (dominates g i) js (l .k) lt (sym (tested (c .before) g i seen .0) ∙ c .if1 .left),
+    let n = c .before .before .before in
+    let i = start (c .before .before) .args .i in
+    let l = n .before .loop in (
+      left-fits (l .rest) (n .loop-test .taken) (l .inv .0),
+      λ g seen. l .inv .1 g seen ∙ first-fails (dominates g i) (l .rest) (n .loop-test .taken) (l .inv .0) (sym (tested (c .before) g seen .0) ∙ c .if1 .left),
     )
 
 returns-2 : tie.Need-returns-2 Inv-loop μ-loop
 unfolding dominantOf dominant
 returns-2 c =
-    let s = c .before .before .before .before .before .before .before in
+    let s = c .before .before .before .before .before in
+    let i = s .args .i in
     let l = c .before .loop in
-    λ g i seen.
-    let saw : Seen (toZ w64 (ofZ w64 (s .args .a))) (s .args .near) g i = record { weight = seen .weight ∙ sym (rd (s .fits .a)); around = seen .around } in
-    let js = neighbours g i in
-    let ge : length js ≤ l .k = omega (arith, near-count g i (s .args .near) (seen .around)) in
-    sym (ap (answerOf g i) (l .inv .1 g i saw ∙ first-end (dominates g i) js (l .k) ge))
+    λ g seen.
+    sym (ap (answerOf g i) (ap (first (dominates g i)) (sym (seen .around)) ∙ l .inv .1 g (saw s g seen) ∙ first-end (dominates g i) (l .rest) (c .loop-test .left)))
 
 pub dominant-neighbour-spec : {M : Type 1} → statement M
 dominant-neighbour-spec =
@@ -127,13 +136,14 @@ dominant-neighbour-spec =
     μ-loop
     bounds-of-requires
     loop-holds
-    (λ c. search needs)
-    (λ c. search needs)
+    (λ c. omega (arith, low-in c))
+    (λ c. omega arith)
+    (λ c. omega (arith, low-in c))
+    (λ c. omega (arith, low-in c))
+    (λ c. omega (arith, low-in c))
     test-edge-requires
-    (λ c. search needs)
-    cast-j
     returns
-    (λ c. search needs)
-    (λ c. search needs)
+    (λ c. omega arith)
+    loop-less
     loop-again
     returns-2)

@@ -1,65 +1,70 @@
-use Rattle.graph.proofs.Laws.{zero-is, zero-not}
-use Rattle.graph.specs.Near.{padded, nearAmong, nearOf}
-use Rattle.graph.specs.NearLaws.{there, those-more, those-same, those-few, near-more}
-use Rattle.rules.specs.Graph.{neighbours}
+use Rattle.graph.proofs.Lowest.{first-below, others-low}
+use Rattle.graph.proofs.Nearing.{Nearing, nearing-begin, nearing-room, nearing-more, nearing-full, nearing-end}
+use Rattle.whole.specs.Masks.{rest-less}
 use Rattle.whole.specs.Ints.{rd}
-use Rattle.whole.specs.Words.{from, upto, those}
 use borrow.Author.Needs.{needs, sfits-of}
 use mir.Val.{SFits}
 use mir.Syntax.{w64}
+use lib.Count.{trailingZeros}
 use lib.IntN.{pos}
 use lib.ListN.{length, getD, length-set}
 use denote.Ref.{now}
 use mathlib.Core.Logic.{⊎-elim}
-use mathlib.Core.Path.{_≡_, refl, sym, ap, _∙_}
+use mathlib.Core.Path.{_≡_, refl, _∙_}
 use native.Mathlib.Omega.{arith}
-use Prim.Native.Nat.{ℕ, _≤_, _-_, _+_, _*_}
+use Prim.Native.Nat.{_<_, _^_, _+_, _*_}
 use Rattle.graph.proofs.neighbours.Statement.{statement}
 use Rattle.graph.proofs.neighbours.Tie as tie
 
 abbrev Inv-loop : tie.InvT-loop
-Inv-loop edges n i r₀ j₀ r j =
-    (j ≤ n) × (r .count ≤ j) × (length (r .list) ≡ 64) × (length (r .weights) ≡ 64) × (r ≡ nearAmong edges i (those (there edges i) (upto j)))
+Inv-loop edges masks i r₀ rest₀ r rest = (rest < 2 ^ 64) × (length (r .list) ≡ 3) × (length (r .weights) ≡ 3) × Nearing edges i rest₀ r rest
 
 abbrev μ-loop : tie.MeasureT-loop
-μ-loop edges n i r₀ j₀ r j = n - j
+μ-loop edges masks i r₀ rest₀ r rest = rest
 
 loop-holds : tie.Need-loop-holds Inv-loop μ-loop
-unfolding those from padded
-loop-holds c = (omega arith, omega arith, refl, refl, refl)
+loop-holds c = (omega arith, refl, refl, nearing-begin (now (c .before .args .edges)) (c .before .args .i) (c .mask-at .result))
+
+-- the decision of a turn
+below : (c : tie.In-loop Inv-loop μ-loop) → trailingZeros 64 (c .before .loop .rest) < 64
+below c = first-below (c .before .loop .rest) (c .loop-test .taken) (c .before .loop .inv .0)
+
+add-r : tie.Need-add-r Inv-loop μ-loop
+add-r c =
+    let t = c .before in
+    let l = t .before .loop in
+    let a = t .before .before .before .args in
+    omega (arith, nearing-room (now (a .edges)) (a .i) (t .before .before .mask-at .result) (l .r) (l .rest) (l .inv .3) (t .loop-test .taken) (l .inv .0))
+
+loop-less : tie.Need-loop-less Inv-loop μ-loop
+loop-less c = rest-less (c .before .before .loop .rest) (c .before .loop-test .taken) (c .before .before .loop .inv .0)
 
 loop-again : tie.Need-loop-again Inv-loop μ-loop
 loop-again c =
-    let l = c .before .before .before .loop in
-    let a = c .before .before .before .before .args in
-    let p = there (now (a .edges)) (a .i) in
-    let x = getD (now (a .edges)) (64 * a .i + l .j) (pos 0) in
-    let f : SFits w64 x = sfits-of (c .before .w .given) in
+    let t = c .before in
+    let l = t .before .loop in
+    let a = t .before .before .before .args in
+    let e = now (a .edges) in
+    let m = t .before .before .mask-at .result in
+    let low = others-low (l .rest) (t .loop-test .taken) (l .inv .0) in
     ⊎-elim
-    (λ w. rw (w .1) (
-      omega arith,
-      omega arith,
-      length-set (l .r .list) (l .r .count) (l .j) ∙ l .inv .2,
-      length-set (l .r .weights) (l .r .count) _ ∙ l .inv .3,
-      near-more (now (a .edges)) (a .i) (those p (upto (l .j))) (l .j) _ (l .r) (l .inv .4) (rd f) (omega (arith, those-few p (l .j)))
-          ∙ ap (nearAmong (now (a .edges)) (a .i)) (sym (those-more p (l .j) (zero-not x (w .0 .taken)))),
+    (λ w.
+    let f : SFits w64 (getD e (64 * a .i + trailingZeros 64 (l .rest)) (pos 0)) = sfits-of (w .1 .given) in
+    rw (w .2) (
+      low,
+      length-set (l .r .list) (l .r .count) _ ∙ l .inv .1,
+      length-set (l .r .weights) (l .r .count) _ ∙ l .inv .2,
+      nearing-more e (a .i) m (l .r) (l .rest) (l .inv .3) (t .loop-test .taken) (l .inv .0) _ (rd f) (w .0 .taken),
     ))
-    (λ w. rw (w .1) (
-      omega arith,
-      omega arith,
-      l .inv .2,
-      l .inv .3,
-      l .inv .4 ∙ ap (nearAmong (now (a .edges)) (a .i)) (sym (those-same p (l .j) (zero-is x (c .before .w .given) (w .0 .left)))),
-    ))
+    (λ w. rw (w .1) (low, l .inv .1, l .inv .2, nearing-full e (a .i) m (l .r) (l .rest) (l .inv .3) (t .loop-test .taken) (l .inv .0) (w .0 .left)))
     (c .if1 .came)
 
 returns : tie.Need-returns Inv-loop μ-loop
-unfolding neighbours nearOf
 returns c =
     let l = c .before .loop in
-    let a = c .before .before .args in
-    let e : l .j ≡ a .n = omega arith in
-    λ b y ss. l .inv .4 ∙ ap (λ (k : ℕ). nearAmong (now (a .edges)) (a .i) (those (there (now (a .edges)) (a .i)) (upto k))) e
+    let s = c .before .before .before in
+    let m = c .before .before .mask-at in
+    λ n h w. nearing-end (now (s .args .edges)) (s .args .i) (m .result) (l .r) (l .rest) (l .inv .3) n (now (s .args .masks)) h w (s .pre) (m .ensures) (c .loop-test .left)
 
 pub neighbours-spec : {M : Type 1} → statement M
 neighbours-spec =
@@ -67,17 +72,19 @@ neighbours-spec =
     (tie.spec
     Inv-loop
     μ-loop
+    (λ c κs. search needs)
     loop-holds
+    (λ c. omega (arith, below (c .before)))
+    (λ c. omega (arith, below (c .before)))
+    (λ c. omega (arith, below (c .before)))
+    (λ c. omega (arith, below (c .before)))
+    (λ c. omega (arith, below (c .before)))
+    (λ c. omega (arith, below (c .before .before)))
     (λ c. search needs)
     (λ c. search needs)
     (λ c. search needs)
+    add-r
     (λ c. search needs)
-    (λ c. search needs)
-    (λ c. search needs)
-    (λ c. search needs)
-    (λ c. search needs)
-    (λ c. search needs)
-    (λ c. search needs)
-    (λ c. search needs)
+    loop-less
     loop-again
     returns)

@@ -1,30 +1,59 @@
 use Rattle.rules.specs.Graph.{clear}
-use native.Mathlib.Numerals.{add-one}
+use Rattle.whole.specs.Masks.{rest-less}
+use Rattle.graph.specs.Shows.{Shows}
+use Rattle.graph.proofs.Lowest.{first-below, others-low}
+use Rattle.graph.proofs.Wiping.{wipe-begin, wipe-turn, wipe-end}
 use native.Mathlib.Omega.{arith}
-use mathlib.Core.Path.{_≡_, refl, ap, _∙_}
-use Prim.Native.Nat.{ℕ, _≤_, _-_}
+use mathlib.Core.Path.{_≡_, refl, _∙_}
+use Prim.Native.Nat.{ℕ, _≤_, _^_, _<_}
 use borrow.Author.Needs.{needs}
+use denote.Ref.{now}
+use lib.ListN.{set}
+use lib.Count.{trailingZeros}
 use Rattle.graph.proofs.wipe.Statement.{statement}
 use Rattle.graph.proofs.wipe.Tie as tie
 
 abbrev Inv-loop : tie.InvT-loop
-Inv-loop edges₀ i n j₀ edges j = (j ≤ n) × (edges ≡ clear i j edges₀)
+Inv-loop edges₀ masks₀ i rest₀ edges masks rest =
+    (rest < 2 ^ 64)
+    × ((n : ℕ) → n ≤ 64 → Shows n edges₀ masks₀ → Shows n edges (set masks i rest) × (clear i n edges ≡ clear i n edges₀))
 
 abbrev μ-loop : tie.MeasureT-loop
-μ-loop edges₀ i n j₀ edges j = n - j
+μ-loop edges₀ masks₀ i rest₀ edges masks rest = rest
 
 loop-holds : tie.Need-loop-holds Inv-loop μ-loop
-unfolding clear
-loop-holds c = (omega arith, refl)
+loop-holds c =
+    let a = c .before .before .args in
+    (omega arith, λ n h s. (wipe-begin n (now (a .edges)) (now (a .masks)) (a .i) (c .mask-at .result) s (c .mask-at .ensures), refl))
+
+-- the decision of a turn
+below : (c : tie.In-loop Inv-loop μ-loop) → trailingZeros 64 (c .before .loop .rest) < 64
+below c = first-below (c .before .loop .rest) (c .loop-test .taken) (c .before .loop .inv .0)
+
+loop-less : tie.Need-loop-less Inv-loop μ-loop
+loop-less c =
+    let t = c .before .before in
+    rest-less (t .before .loop .rest) (t .loop-test .taken) (t .before .loop .inv .0)
 
 loop-again : tie.Need-loop-again Inv-loop μ-loop
-unfolding clear
-loop-again c = (omega arith, rw (add-one, c .before .loop .inv .1))
+loop-again c =
+    let t = c .before .before in
+    let l = t .before .loop in
+    let a = t .before .before .before .before .args in
+    let m = c .marked in (
+      others-low (l .rest) (t .loop-test .taken) (l .inv .0),
+      λ n h s.
+          let w = wipe-turn (l .rest) (t .loop-test .taken) (l .inv .0) n (l .edges) (l .masks) (a .i) (m .result) (l .inv .1 n h s .0) (t .before .before .before .before .pre) (omega arith) (m .ensures) in
+          (w .0, w .1 ∙ l .inv .1 n h s .1),
+    )
 
 returns : tie.Need-returns Inv-loop μ-loop
 returns c =
-    let last : c .before .loop .j ≡ c .before .before .args .n = omega arith in
-    c .before .loop .inv .1 ∙ ap (λ (m : ℕ). clear (c .before .before .args .i) m (c .before .before .args .edges .now)) last
+    let l = c .before .loop in
+    let s₀ = c .before .before .before .before in
+    λ n h s.
+    let w = wipe-end n (l .edges) (l .masks) (s₀ .args .i) (l .rest) (l .inv .1 n h s .0) (s₀ .pre) h (c .loop-test .left) in
+    (w .0 ∙ l .inv .1 n h s .1, w .1)
 
 pub wipe-spec : {M : Type 1} → statement M
 wipe-spec =
@@ -32,16 +61,25 @@ wipe-spec =
     (tie.spec
     Inv-loop
     μ-loop
+    (λ c κs. search needs)
     loop-holds
+    (λ c. omega (arith, below c))
+    (λ c. omega (arith, below c))
+    (λ c. omega (arith, below c))
+    (λ c. omega (arith, below c))
+    (λ c. omega (arith, below c))
+    (λ c. omega (arith, below c))
+    (λ c. omega (arith, below c))
+    (λ c. omega (arith, below c))
+    (λ c. omega (arith, below c))
+    (λ c. omega (arith, below c))
+    (λ c. omega (arith, below c))
+    (λ c κs. search needs)
+    (λ c. omega (arith, below (c .before .before)))
+    (λ c. omega (arith, below (c .before .before)))
     (λ c. search needs)
-    (λ c. search needs)
-    (λ c. search needs)
-    (λ c. search needs)
-    (λ c. search needs)
-    (λ c. search needs)
-    (λ c. search needs)
-    (λ c. search needs)
-    (λ c. search needs)
-    (λ c. search needs)
+    loop-less
     loop-again
+    (λ c. search needs)
+    (λ c. search needs)
     returns)

@@ -11,21 +11,21 @@ use borrow.Author.Needs.{needs}
 use Rattle.low_degree.proofs.absorb.Statement.{statement}
 use Rattle.low_degree.proofs.absorb.Tie as tie
 
-table : (c : tie.Start) → Gains (c .args .t4)
-table c = gains (c .args .t4) (c .pre .6)
+table : (c : tie.Start) → Gains (c .args .t5)
+table c = gains (c .args .t5) (c .pre .6)
 
 add-constant-requires : tie.Need-add-constant-requires
 add-constant-requires c κs =
     let s = c .before .before .before .before in
     let m = table s in
-    rw (m .r0) (sum-fits (s .args .f .constant) (getD (s .args .t4) 0 (pos 0)) (omega (arith, s .pre .3)) (omega (arith, m .b0)))
+    rw (m .r0) (sum-fits (s .args .f .constant) (getD (s .args .t5) 0 (pos 0)) (omega (arith, s .pre .3)) (omega (arith, m .b0)))
 
 returns : tie.Need-returns
 returns c =
     let s = c .before .before .before .before .before .before in
     let a = s .args in
     let m = table s in
-    absorb-none (λ m. getD (a .t4) m (pos 0)) (a .f) (c .before .add-constant .result) (now (a .lin)) (now (a .edges)) (a .j) (a .k) (rw (m .r0) at (c .before .add-constant .ensures)) (a .count) (c .if1 .taken)
+    (absorb-none (λ m. getD (a .t5) m (pos 0)) (a .f) (c .before .add-constant .result) (now (a .lin)) (now (a .edges)) (a .j) (a .k) (rw (m .r0) at (c .before .add-constant .ensures)) (a .count) (c .if1 .taken), λ n h w. w)
 
 sub-add-linear : tie.Need-sub-add-linear
 sub-add-linear c = let m = table (c .before .before .before .before .before .before .before) in rw (m .r1, m .r0) (m .d1)
@@ -34,17 +34,19 @@ add-linear-requires : tie.Need-add-linear-requires
 add-linear-requires c κs =
     let s = c .before .before .before .before .before .before .before in
     let m = table s in
-    let v = getD (s .args .t4) 1 (pos 0) -ℤ getD (s .args .t4) 0 (pos 0) in
+    let v = getD (s .args .t5) 1 (pos 0) -ℤ getD (s .args .t5) 0 (pos 0) in
     rw (m .r1, m .r0, rd (m .d1)) (s .pre .0, gain-fits (s .args .j) v (s .pre .4) (omega arith) (omega (arith, m .b1)))
 
 returns-2 : tie.Need-returns-2
 returns-2 c =
     let s = c .before .before .before .before .before .before .before .before .before in
     let a = s .args in
-    let m = table s in
-    absorb-one (λ m. getD (a .t4) m (pos 0)) (a .f) (c .before .before .before .before .add-constant .result) (now (a .lin)) (now (a .edges)) (a .j) (a .k)
-    (rw (m .r0) at (c .before .before .before .before .add-constant .ensures))
-    (a .count) (c .before .add-linear .last .0) (c .if2 .taken) (rw (m .r1, m .r0, rd (m .d1)) at (c .before .add-linear .ensures))
+    let m = table s in (
+      absorb-one (λ m. getD (a .t5) m (pos 0)) (a .f) (c .before .before .before .before .add-constant .result) (now (a .lin)) (now (a .edges)) (a .j) (a .k)
+          (rw (m .r0) at (c .before .before .before .before .add-constant .ensures))
+          (a .count) (c .before .add-linear .last .0) (c .if2 .taken) (rw (m .r1, m .r0, rd (m .d1)) at (c .before .add-linear .ensures)),
+      λ n h w. w,
+    )
 
 sub-add-linear-2 : tie.Need-sub-add-linear-2
 sub-add-linear-2 c =
@@ -56,47 +58,49 @@ add-linear-requires-2 c κs =
     let s = c .before .before .before .before .before .before .before .before .before .before in
     let a = s .args in
     let m = table s in
-    let v = getD (a .t4) 1 (pos 0) -ℤ getD (a .t4) 0 (pos 0) in
-    let w = getD (a .t4) 2 (pos 0) -ℤ getD (a .t4) 0 (pos 0) in
+    let v = getD (a .t5) 1 (pos 0) -ℤ getD (a .t5) 0 (pos 0) in
+    let w = getD (a .t5) 2 (pos 0) -ℤ getD (a .t5) 0 (pos 0) in
     let e : c .before .before .add-linear .last .0 ≡ set (now (a .lin)) (a .j) (getD (now (a .lin)) (a .j) (pos 0) +ℤ v) = rw (m .r1, m .r0, rd (m .d1)) at (c .before .before .add-linear .ensures) in
     rw (m .r2, m .r0, rd (m .d2)) (s .pre .1, gain-fits (a .k) w (subst (Small (2 ^ 50 + 2 ^ 52)) (sym e) (small-gain (a .j) v (s .pre .4) (m .b1))) (omega arith) (omega (arith, m .b2)))
 
 sub-add-edge : tie.Need-sub-add-edge
 sub-add-edge c =
-    let m = table (c .before .before .before .before .before .before .before .before .before .before .before .before) in
+    let m = table (c .before .before .before .before .before .before .before .before .before .before .before .before .before) in
     rw (m .r3, m .r1) (m .e1)
 
 sub-add-edge-2 : tie.Need-sub-add-edge-2
 sub-add-edge-2 c =
-    let m = table (c .before .before .before .before .before .before .before .before .before .before .before .before) in
+    let m = table (c .before .before .before .before .before .before .before .before .before .before .before .before .before) in
     rw (m .r3, m .r1, m .r2, rd (m .e1)) (m .e2)
 
 add-add-edge : tie.Need-add-add-edge
 add-add-edge c =
-    let m = table (c .before .before .before .before .before .before .before .before .before .before .before .before) in
+    let m = table (c .before .before .before .before .before .before .before .before .before .before .before .before .before) in
     rw (m .r3, m .r1, m .r2, m .r0, rd (m .e1), rd (m .e2)) (m .e3)
 
 add-edge-requires : tie.Need-add-edge-requires
 add-edge-requires c κs =
-    let s = c .before .before .before .before .before .before .before .before .before .before .before .before in
+    let s = c .before .before .before .before .before .before .before .before .before .before .before .before .before in
     let a = s .args in
     let m = table s in
-    let v = getD (a .t4) 3 (pos 0) -ℤ getD (a .t4) 1 (pos 0) -ℤ getD (a .t4) 2 (pos 0) +ℤ getD (a .t4) 0 (pos 0) in
+    let v = getD (a .t5) 3 (pos 0) -ℤ getD (a .t5) 1 (pos 0) -ℤ getD (a .t5) 2 (pos 0) +ℤ getD (a .t5) 0 (pos 0) in
     rw (m .r3, m .r1, m .r2, m .r0, rd (m .e1), rd (m .e2), rd (m .e3))
     (s .pre .0, s .pre .1, gain-fits (64 * a .j + a .k) v (s .pre .5) (omega arith) (omega (arith, m .b3)), gain-fits (64 * a .k + a .j) v (s .pre .5) (omega arith) (omega (arith, m .b3)))
 
 returns-3 : tie.Need-returns-3
 returns-3 c =
-    let s = c .before .before .before .before .before .before .before .before .before .before .before .before .before in
+    let s = c .before .before .before .before .before .before .before .before .before .before .before .before .before .before in
     let a = s .args in
     let m = table s in
-    let two : a .count ≡ 2 = omega (arith, s .pre .2, c .before .before .before .before .if2 .left, c .before .before .before .before .before .before .before .if1 .left) in
-    absorb-two (λ m. getD (a .t4) m (pos 0)) (a .f) (c .before .before .before .before .before .before .before .before .add-constant .result) (now (a .lin)) (now (a .edges)) (a .j) (a .k)
-    (rw (m .r0) at (c .before .before .before .before .before .before .before .before .add-constant .ensures))
-    (a .count) (c .before .before .before .before .before .add-linear .last .0) (c .before .before .add-linear2 .last .0) (c .add-edge .last .0) two
-    (rw (m .r1, m .r0, rd (m .d1)) at (c .before .before .before .before .before .add-linear .ensures))
-    (rw (m .r2, m .r0, rd (m .d2)) at (c .before .before .add-linear2 .ensures))
-    (rw (m .r3, m .r1, m .r2, m .r0, rd (m .e1), rd (m .e2), rd (m .e3)) at (c .add-edge .ensures))
+    let two : a .count ≡ 2 = omega (arith, s .pre .2, c .before .before .before .before .before .if2 .left, c .before .before .before .before .before .before .before .before .if1 .left) in (
+      absorb-two (λ m. getD (a .t5) m (pos 0)) (a .f) (c .before .before .before .before .before .before .before .before .before .add-constant .result) (now (a .lin)) (now (a .edges)) (a .j) (a .k)
+          (rw (m .r0) at (c .before .before .before .before .before .before .before .before .before .add-constant .ensures))
+          (a .count) (c .before .before .before .before .before .before .add-linear .last .0) (c .before .before .before .add-linear2 .last .0) (c .add-edge .last .0) two
+          (rw (m .r1, m .r0, rd (m .d1)) at (c .before .before .before .before .before .before .add-linear .ensures))
+          (rw (m .r2, m .r0, rd (m .d2)) at (c .before .before .before .add-linear2 .ensures))
+          (rw (m .r3, m .r1, m .r2, m .r0, rd (m .e1), rd (m .e2), rd (m .e3)) at (c .add-edge .ensures .0)),
+      λ n h. c .add-edge .ensures .1 n (h two .0) (h two .1),
+    )
 
 pub absorb-spec : {M : Type 1} → statement M
 absorb-spec =

@@ -2,7 +2,7 @@ use Rattle.low_degree.proofs.Laws.{read, eliminated}
 use Rattle.low_degree.specs.Table.{stepFrom}
 use Rattle.low_degree.specs.TableLaws.{table-asks, step-table, tee-small}
 use Rattle.graph.specs.Held.{held}
-use Rattle.graph.specs.NearLaws.{near-below}
+use Rattle.graph.specs.NearLaws.{near-below, near-inside}
 use Rattle.accepted.specs.Small.{Small, small-more, small-tab}
 use Rattle.graph.specs.Small.{dropped-constant, dropped-linear, dropped-edges}
 use Rattle.rules.specs.Graph.{Graph}
@@ -37,12 +37,12 @@ table-of-requires c κs =
 
 cast-j : tie.Need-cast-j
 cast-j c =
-    let s = c .before .before .before .before .before .before .before .before .before in
+    let s = c .before .before .before .before .before .before .before .before .before .before in
     search (needs, near-below (before s) (s .args .i) (s .args .near) (s .pre .3) (s .pre .1) 0)
 
 cast-k : tie.Need-cast-k
 cast-k c =
-    let s = c .before .before .before .before .before .before .before .before .before in
+    let s = c .before .before .before .before .before .before .before .before .before .before in
     search (needs, near-below (before s) (s .args .i) (s .args .near) (s .pre .3) (s .pre .1) 1)
 
 -- the rules' own table
@@ -51,31 +51,33 @@ table c = let s = c .before .before in c .table-of .ensures (before s) (s .args 
 
 absorb-requires : tie.Need-absorb-requires
 absorb-requires c κs =
-    let t = c .before .before .before .before .before .before .before .before .before in
+    let t = c .before .before .before .before .before .before .before .before .before .before .before in
     let s = t .before .before in
     let a = s .args in
     let g = before s in
-    let d = c .before .before .before .drop-to in
+    let d = c .before .before .before .before .drop-to in
     let after = held (d .result) (d .last .0) (d .last .1 .0) in
     let low = near-below g (a .i) (a .near) (s .pre .3) (s .pre .1) in (
       low 0,
       low 1,
       s .pre .4,
-      omega (arith, dropped-constant 3 (a .i) g after (d .ensures) (s .pre .2)),
-      small-more (2 ^ 50) (dropped-linear 3 (a .i) g after (d .ensures) (s .pre .2)) (omega arith),
-      small-more (2 ^ 50) (dropped-edges 3 (a .i) g after (d .ensures) (s .pre .2)) (omega arith),
+      omega (arith, dropped-constant 3 (a .i) g after (d .ensures .0) (s .pre .2)),
+      small-more (2 ^ 50) (dropped-linear 3 (a .i) g after (d .ensures .0) (s .pre .2)) (omega arith),
+      small-more (2 ^ 50) (dropped-edges 3 (a .i) g after (d .ensures .0) (s .pre .2)) (omega arith),
       subst (Small (2 ^ 50)) (sym (table t .1)) (small-more (2 ^ 50) (small-tab (tee g (a .i)) 8 (tee-small g (a .i) (a .near) (s .pre .3) (few s) (s .pre .2))) (omega arith)),
     )
 
 returns : tie.Need-returns
 returns c =
-    let t = c .before .before .before .before .before .before .before .before .before .before in
+    let t = c .before .before .before .before .before .before .before .before .before .before .before .before in
     let s = t .before .before in
     let a = s .args in
     let g = before s in
-    let d = c .before .before .before .before .drop-to in (
-      eliminated g (a .i) (a .near) (s .pre .3) (s .pre .4) (held (d .result) (d .last .0) (d .last .1 .0)) _ (t .table-of .result .tees) (table t .1) (d .ensures) (c .absorb .ensures),
-      c .before .before .before .before .before .before .before .step-of .ensures ∙ ap (stepFrom (a .i) (a .near)) (table t .0) ∙ step-table g (a .i) (a .near) (s .pre .3) (few s),
+    let d = c .before .before .before .before .before .drop-to in
+    let low = near-inside g (a .i) (a .near) (s .pre .3) in (
+      eliminated g (a .i) (a .near) (s .pre .3) (s .pre .4) (held (d .result) (d .last .0) (d .last .1 .0)) _ (t .table-of .result .tees) (table t .1) (d .ensures .0) (c .absorb .ensures .0),
+      c .absorb .ensures .1 (a .f .n) (λ two. (low 0 (omega arith) (omega arith), low 1 (omega arith) (omega arith))) (d .ensures .1),
+      c .before .before .before .before .before .before .before .before .before .step-of .ensures ∙ ap (stepFrom (a .i) (a .near)) (table t .0) ∙ step-table g (a .i) (a .near) (s .pre .3) (few s),
     )
 
 pub eliminate-spec : {M : Type 1} → statement M

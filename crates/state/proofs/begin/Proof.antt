@@ -8,12 +8,12 @@ returns : tie.Need-returns
 unfolding run.begin
 returns c =
     let a = c .before .before .before .before .args in
-    let q = c .before .first-queue in (
-      (λ l. record {
+    let q = c .first-queue in (
+      (λ l m h. record {
         graph = refl;
+        shown = h;
         queue = q .ensures .0 (a .frame .constant) l;
         kept = q .ensures .1;
-        steps = c .no-steps .ensures;
         counted = refl;
         takes = refl;
         blocks = refl;
@@ -22,4 +22,4 @@ returns c =
     )
 
 pub begin-spec : {M : Type 1} → statement M
-begin-spec = tie.close (tie.spec (λ c κs. search needs) (λ c κs. search needs) returns)
+begin-spec = tie.close (tie.spec (λ c κs. search needs) returns)

@@ -1,7 +1,8 @@
 use mathlib.Core.Path.{ap, ap₂, _∙_}
 use mathlib.Core.List.{List}
 use Prim.Native.Nat.{ℕ}
-use lib.ListN.{take}
+use denote.Ref.{now}
+use Rattle.whole.specs.Masks.{these}
 use Rattle.rules.specs.Graph.{Graph}
 use Rattle.queue.specs.Items.{items}
 use Rattle.state.specs.Holds.{tallyOf}
@@ -12,20 +13,20 @@ use Rattle.state.proofs.reduced.Tie as tie
 
 returns : tie.Need-returns
 unfolding run.reduced
-returns c = λ S l₀ e₀ l i g y h eg en es.
+returns c = λ S l₀ e₀ l m₀ m i g y h eg em en.
     let a = c .before .before .before .before .before .args in
-    let j = c .before .before .rejoin .ensures in
+    let j = c .before .rejoin .ensures in
     record {
       graph = eg;
+      shown = em;
       queue =
-          j .0 (a .frame .constant) l ∙ ap (λ (x : Graph). run.join (a .switches) x (take (a .near .count) (a .near .list)) (items (a .s .queue))) eg
+          j .0 (a .frame .constant) l ∙ ap (λ (x : Graph). run.join (a .switches) x (these (a .near)) (items (a .s .queue) (now (a .ring)))) eg
           ∙ ap₂ (λ (js q : List ℕ). run.join (a .switches) g js q) en (h .queue);
       kept = j .1;
-      steps = c .before .with-step .ensures .1 (S .steps) y (h .steps) es;
       counted = c .more .ensures ∙ ap (λ (t : run.Tally). run.plus t (tallyOf (a .counts))) (h .counted);
       takes = h .takes;
       blocks = h .blocks;
     }
 
 pub reduced-spec : {M : Type 1} → statement M
-reduced-spec = tie.close (tie.spec (λ c κs. search needs) (λ c κs. search needs) (λ c κs. search needs) returns)
+reduced-spec = tie.close (tie.spec (λ c κs. search needs) (λ c κs. search needs) returns)

@@ -12,13 +12,13 @@ one-more a b c d e f = simp add-zero
 
 returns : tie.Need-returns
 unfolding run.skipped
-returns c = λ S l e h.
+returns c = λ S w h.
     let t = c .before .args .s .tally in
     record {
       graph = h .graph;
+      shown = h .shown;
       queue = h .queue;
       kept = h .kept;
-      steps = h .steps;
       counted = one-more (t .eliminated) (t .three) (t .skipped) (t .contracted) (t .weakly) (t .«in_blocks») ∙ ap (λ (x : run.Tally). run.plus x (run.tally 0 0 1 0 0 0)) (h .counted);
       takes = h .takes;
       blocks = h .blocks;

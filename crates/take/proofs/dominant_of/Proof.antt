@@ -16,14 +16,14 @@ dominant-neighbour-requires c κs =
     let s = c .before in
     let a = s .args in
     let f : SFits w64 (getD (now (a .lin)) (a .i) (pos 0)) = simp ints (omega (arith, s .pre .1 .each (a .i))) in
-    (rw (rd f) (s .pre .1 .each (a .i)), s .pre .2, s .pre .3, s .pre .4)
+    (s .pre .0, rw (rd f) (s .pre .1 .each (a .i)), s .pre .2)
 
 returns : tie.Need-returns
-returns c = λ g e n.
+returns c = λ g el ee n.
     let s = c .before .before in
     let a = s .args in
     let f : SFits w64 (getD (now (a .lin)) (a .i) (pos 0)) = simp ints (omega (arith, s .pre .1 .each (a .i))) in
-    c .dominant-neighbour .ensures g (a .i) (record { weight = ap (λ (l : List ℤ). getD l (a .i) (pos 0)) e ∙ sym (rd f); around = n })
+    c .dominant-neighbour .ensures g (record { weight = ap (λ (l : List ℤ). getD l (a .i) (pos 0)) el ∙ sym (rd f); around = n; edges = ee })
 
 pub dominant-of-spec : {M : Type 1} → statement M
 dominant-of-spec =

@@ -1,42 +1,61 @@
 use mathlib.Core.Path.{_≡_, refl, ap, _∙_, subst}
+use mathlib.Core.Bool.{true}
 use Prim.Native.Nat.{ℕ}
 use native.Mathlib.Omega.{arith}
 use borrow.Author.Needs.{needs}
 use denote.Ref.{now}
 use Rattle.whole.specs.Words.{oneIf}
-use Rattle.rules.specs.Graph.{Graph, neighbours}
+use Rattle.rules.specs.Graph.{Graph}
 use Rattle.rules.specs.DominantEdge.{weak, contract, contractStep}
-use Rattle.rules.specs.Record.{hold}
 use Rattle.rules.specs.Run as run
 use Rattle.graph.specs.Held.{held}
-use Rattle.state.specs.Holds.{Holds}
+use Rattle.state.specs.Holds.{Lent, lent}
 use Rattle.state.specs.SameN.{contract-n}
-use Rattle.take.specs.NearLaws.{front-near, reducible}
+use Rattle.take.specs.Ready.{Went}
+use Rattle.take.specs.ReducingLaws.{around, reducible, finish}
 use Rattle.take.proofs.into.Statement.{statement}
 use Rattle.take.proofs.into.Tie as tie
 
+abbrev before : tie.Start → Lent
+before s = lent (now (s .args .lin)) (now (s .args .edges)) (now (s .args .masks)) (now (s .args .ring))
+
+abbrev start : tie.After-contract → tie.Start
+start z = z .before .before .before .before .before
+
+same-n : (z : tie.After-contract) → z .contract .result .frame .n ≡ start z .args .s .frame .n
+same-n z =
+    let a = start z .args in
+    ap (λ (g : Graph). g .n) (z .contract .ensures .0) ∙ contract-n (a .i) (a .j) (held (a .s .frame) (now (a .lin)) (now (a .edges)))
+
+contract-requires : tie.Need-contract-requires
+contract-requires c κs =
+    let s = c .before .before .before .before in
+    let r = s .pre .0 in
+    (r .below, s .pre .2, r .few, r .within, around (s .args .s) (before s) (s .args .i) r, r .shown)
+
 reduced-requires : tie.Need-reduced-requires
 reduced-requires c κs =
-    let z = c .before .before .before .before in
-    let s = z .before .before .before in
-    let a = s .args in
-    reducible (a .s) (now (a .lin)) (now (a .edges)) (a .i) _ (a .near) _ (s .pre .0) (s .pre .1) (s .pre .2)
-    (ap (λ (g : Graph). g .n) (z .contract .ensures .0) ∙ contract-n (a .i) (a .j) (held (a .s .frame) (now (a .lin)) (now (a .edges))))
-    (record { eliminated = omega arith; three = omega arith; skipped = omega arith; contracted = omega arith; weakly = c .before .before .before .one-if .ensures .1; inBlocks = refl })
+    let u = c .before .before .before .before in
+    let z = u .before in
+    let s = start z in
+    reducible (s .args .s) (before s) (s .args .i) (s .pre .0) _ _ (same-n z)
+    (record { eliminated = omega arith; three = omega arith; skipped = omega arith; contracted = omega arith; weakly = u .one-if .ensures .1; inBlocks = refl })
 
 returns : tie.Need-returns
 unfolding run.go
 returns c = λ S h.
-    let z = c .before .before .before .before .before in
-    let s = z .before .before .before in
-    let a = s .args in
-    let g : Graph = held (a .s .frame) (now (a .lin)) (now (a .edges)) in
-    let w : c .before .before .before .before .one-if .result ≡ oneIf (weak (S .graph) (a .i) (a .j)) = c .before .before .before .before .one-if .ensures .0 ∙ ap oneIf (s .pre .4 ∙ ap (λ (x : Graph). weak x (a .i) (a .j)) (h .graph)) in
-    subst (λ (k : ℕ). Holds (run.reduced (a .switches) S (a .i) (contract (a .i) (a .j) (S .graph)) (contractStep (a .i) (a .j) (S .graph)) (run.tally 0 0 0 1 k 0)) (c .reduced .result) (z .contract .last .0) (z .contract .last .1 .0)) w
-    (c .reduced .ensures S (now (a .lin)) (now (a .edges)) (z .contract .last .0) (a .i) (contract (a .i) (a .j) (S .graph)) (contractStep (a .i) (a .j) (S .graph)) h
-    (z .contract .ensures .0 ∙ ap (contract (a .i) (a .j)) (h .graph))
-    (front-near g (a .i) (a .near) (s .pre .2) ∙ ap (λ (x : Graph). neighbours x (a .i)) (h .graph))
-    (z .contract .ensures .1 ∙ ap (λ (x : Graph). hold (contractStep (a .i) (a .j) x)) (h .graph)))
+    let u = c .before .before .before .before .before in
+    let z = u .before in
+    let s = start z in
+    let i = s .args .i in
+    let j = s .args .j in
+    let e : u .one-if .result ≡ oneIf (weak (S .graph) i j) = u .one-if .ensures .0 ∙ ap oneIf (s .pre .3 ∙ ap (λ (x : Graph). weak x i j) (h .graph)) in
+    subst
+    (λ (k : ℕ). Went S (run.reduced (s .args .switches) S i (contract i j (S .graph)) (contractStep i j (S .graph)) (run.tally 0 0 0 1 k 0))
+    (record { state = c .reduced .result; step = z .contract .result .step; stepped = true })
+    (lent (z .contract .last .0) (z .contract .last .1 .0) (z .contract .last .1 .1 .0) (c .reduced .last .1 .0))) e
+    (finish (s .args .s) (before s) i (s .pre .0) (s .args .switches) _ _ _ _ _ _ _ _ (c .reduced .ensures) (contract i j) (contractStep i j) (z .contract .ensures .0) (same-n z) (z .contract .ensures .1) (z .contract .ensures .2) S h)
 
 pub into-spec : {M : Type 1} → statement M
-into-spec = tie.close (tie.spec (λ c κs. search needs) (λ c κs. search needs) reduced-requires returns)
+into-spec =
+    tie.close (tie.spec (λ c. search needs) (λ c. search needs) contract-requires (λ c κs. search needs) reduced-requires returns)

@@ -1,6 +1,7 @@
 use mathlib.Core.Path.{refl, sym, ap, _∙_}
 use Prim.Native.Nat.{ℕ, _+_}
 use borrow.Author.Needs.{needs}
+use denote.Ref.{now}
 use Rattle.rules.specs.Run as run
 use Rattle.queue.specs.Items.{items}
 use Rattle.take.proofs.take.Statement.{statement}
@@ -8,15 +9,14 @@ use Rattle.take.proofs.take.Tie as tie
 
 act-requires : tie.Need-act-requires
 act-requires c κs =
-    let s = c .before .before .before .before in
-    let p = s .pre in
-    let z = c .before .before .before .pop .ensures in
+    let z = c .before .before .before .before .before in
+    let p = z .before .before .pre in
     record {
-      below = z .1;
+      below = z .pop .ensures .1;
       few = p .few;
       within = p .within;
-      kept = z .2;
-      room = p .room (c .before .before .before .pop .result .decision);
+      shown = p .shown;
+      kept = z .pop .ensures .2;
       eliminated = p .eliminated;
       three = p .three;
       contracted = p .contracted;
@@ -28,26 +28,19 @@ act-requires c κs =
 returns : tie.Need-returns
 unfolding run.takeFront
 returns c = λ S h.
-    let z = c .before .before .before .before .pop in
-    let q = items (z .result .rest) in (
-      z .result .decision,
-      (
-        q,
-        (
-          sym (h .queue) ∙ z .ensures .0,
-          c .act .ensures (run.takeFront q S)
-              (record {
-                graph = h .graph;
-                queue = refl;
-                kept = z .ensures .2;
-                steps = h .steps;
-                counted = h .counted;
-                takes = ap (λ (k : ℕ). k + 1) (h .takes);
-                blocks = h .blocks;
-              }),
-        ),
-      ),
-    )
+    let z = c .before .before .before .before .before .before in
+    let q = items (z .pop .result .rest) (now (z .before .before .args .ring)) in
+    let k = c .act .ensures (run.takeFront q S)
+    (record {
+      graph = h .graph;
+      shown = h .shown;
+      queue = refl;
+      kept = z .pop .ensures .2;
+      counted = h .counted;
+      takes = ap (λ (k : ℕ). k + 1) (h .takes);
+      blocks = h .blocks;
+    }) in
+    (z .pop .result .decision, (q, (sym (h .queue) ∙ z .pop .ensures .0, record { holds = k .holds; no = k .no; yes = k .yes })))
 
 pub take-spec : {M : Type 1} → statement M
 take-spec = tie.close (tie.spec (λ c κs. search needs) (λ c. search needs) act-requires returns)

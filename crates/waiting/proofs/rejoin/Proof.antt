@@ -1,64 +1,66 @@
-use mathlib.Core.Path.{_≡_, refl, sym, ap, _∙_}
+use mathlib.Core.Path.{_≡_, refl, sym, _∙_}
 use mathlib.Core.List.{List}
-use Prim.Native.Nat.{_-_, _≤_}
+use Prim.Native.Nat.{ℕ, _-_, _^_, _<_}
 use native.Mathlib.Omega.{arith}
+use lib.Bits.{bitAnd}
+use lib.Count.{trailingZeros}
 use lib.IntN.{ℤ}
-use lib.ListN.{length, getD, take, drop}
-use lib.Seq.{length-take-le, getD-take}
 use borrow.Author.Needs.{needs}
 use denote.Ref.{now}
+use Rattle.whole.specs.Masks.{these, these-below, first-in, rest-less}
 use Rattle.rules.specs.Graph.{graph}
 use Rattle.rules.specs.Run.{join}
 use Rattle.queue.specs.Items.{items, Kept}
-use Rattle.waiting.proofs.Laws.{turn, join-next, join-done}
+use Rattle.waiting.proofs.Laws.{join-next, join-done}
 use Rattle.waiting.proofs.rejoin.Statement.{statement}
 use Rattle.waiting.proofs.rejoin.Tie as tie
 
 abbrev Inv-loop : tie.InvT-loop
-Inv-loop edges states n switches near count q₀ k₀ q k =
-    (k ≤ count) × Kept q
-    × ((c : ℤ) (l : List ℤ) → join switches (graph n c l edges states) (take count (near .list)) (items q₀) ≡ join switches (graph n c l edges states) (drop k (take count (near .list))) (items q))
+Inv-loop edges ring₀ states n switches near q₀ rest₀ ring q rest =
+    (rest < 2 ^ 64) × Kept q ring
+    × ((c : ℤ) (l : List ℤ) → join switches (graph n c l edges states) (these near) (items q₀ ring₀) ≡ join switches (graph n c l edges states) (these rest) (items q ring))
 
 abbrev μ-loop : tie.MeasureT-loop
-μ-loop edges states n switches near count q₀ k₀ q k = count - k
+μ-loop edges ring₀ states n switches near q₀ rest₀ ring q rest = rest
 
 loop-holds : tie.Need-loop-holds Inv-loop μ-loop
-loop-holds c = (omega arith, c .pre .4, λ k l. refl)
+loop-holds c = (search needs, c .pre .1, λ k l. refl)
+
+-- in a turn: its decision, and the mask without it
+module _ (t : tie.In-loop Inv-loop μ-loop) where
+  abbrev rest : ℕ
+  rest = t .before .loop .rest
+
+  low : trailingZeros 64 rest < 64
+  low = these-below rest (trailingZeros 64 rest) (first-in rest (t .loop-test .taken) (t .before .loop .inv .0))
+
+  less : bitAnd rest (rest - 1) < rest
+  less = rest-less rest (t .loop-test .taken) (t .before .loop .inv .0)
+
+cast-j : tie.Need-cast-j Inv-loop μ-loop
+cast-j c = omega (arith, low c)
 
 join-one-requires : tie.Need-join-one-requires Inv-loop μ-loop
-join-one-requires c κs = let s = c .before .before .before in (s .pre .0, s .pre .3 (c .before .before .loop .k), c .before .before .loop .inv .1)
+join-one-requires c κs = (c .before .before .before .pre .0, low (c .before), c .before .before .loop .inv .1)
+
+loop-less : tie.Need-loop-less Inv-loop μ-loop
+loop-less c = less (c .before .before)
 
 loop-again : tie.Need-loop-again Inv-loop μ-loop
 loop-again c =
-    let m = c .before .before .before in
-    let a = m .before .args in
-    let js = take (a .t6 .count) (a .t6 .list) in
-    let long : length js ≡ a .t6 .count = length-take-le (a .t6 .count) (a .t6 .list) (omega arith) in
-    let here : getD js (m .loop .k) 0 ≡ getD (a .t6 .list) (m .loop .k) 0 = getD-take (a .t6 .count) (a .t6 .list) (m .loop .k) 0 (omega arith) in (
-      omega arith,
+    let t = c .before .before in
+    let m = t .before in
+    let a = m .before .args in (
+      omega (arith, less t),
       c .join-one .ensures .0,
-      λ k l. let g = graph (a .n) k l (now (a .edges)) (now (a .states)) in
-          m .loop .inv .2 k l ∙ join-next (a .switches) g js (m .loop .k) (items (m .loop .q)) (items (c .join-one .result)) (omega arith) (c .join-one .ensures .1 k l ∙ ap (turn (a .switches) g (items (m .loop .q))) (sym here)),
+      λ k l. m .loop .inv .2 k l ∙ join-next (a .switches) (graph (a .n) k l (now (a .edges)) (now (a .states))) (m .loop .rest) (items (m .loop .q) (m .loop .ring)) _ (t .loop-test .taken) (m .loop .inv .0) (c .join-one .ensures .1 k l),
     )
 
 returns : tie.Need-returns Inv-loop μ-loop
 returns c =
     let m = c .before in
     let a = m .before .args in
-    let long : length (take (a .t6 .count) (a .t6 .list)) ≡ a .t6 .count = length-take-le (a .t6 .count) (a .t6 .list) (omega arith) in
-    ((λ k l. sym (m .loop .inv .2 k l ∙ join-done (a .switches) (graph (a .n) k l (now (a .edges)) (now (a .states))) (take (a .t6 .count) (a .t6 .list)) (m .loop .k) (items (m .loop .q)) (omega (arith, long)))), m .loop .inv .1)
+    ((λ k l. sym (m .loop .inv .2 k l ∙ join-done (a .switches) (graph (a .n) k l (now (a .edges)) (now (a .states))) (m .loop .rest) (items (m .loop .q) (m .loop .ring)) (c .loop-test .left))), m .loop .inv .1)
 
 pub rejoin-spec : {M : Type 1} → statement M
-rejoin-spec =
-    tie.close
-    (tie.spec
-    Inv-loop
-    μ-loop
-    loop-holds
-    (λ c. search needs)
-    (λ c. search needs)
-    join-one-requires
-    (λ c. search needs)
-    (λ c. search needs)
-    loop-again
-    returns)
+rejoin-spec = tie.close (tie.spec Inv-loop μ-loop loop-holds cast-j join-one-requires (λ c. search needs) loop-less loop-again returns)
