@@ -63,7 +63,7 @@ test S a b f g = go (ltb a b) refl
     go true e = f (ltb-true a b e)
     go false e = g (ltb-false a b e)
 
-module _ (r : Remaining) (ok : Places r) where
+module _ (r : Remaining) (ok : Places (r .list) (r .len)) where
   length-rest : length (rest r) ≡ r .len
   length-rest = length-take-le (r .len) (r .list) (omega (arith, ok .few, ok .long))
 
@@ -108,7 +108,7 @@ module _ (r : Remaining) (ok : Places r) where
     edges-out = tab-cong (edgeAt l (r .list) (r .len)) (cellOf l (rest r)) 4096 (λ k h. cell-at k) ∙ sym (tab-map (cellOf l (rest r)) 4096)
 
 -- the rules' outputs of a graph whose remaining decisions are these
-module _ (g : Graph) (r : Remaining) (ok : Places r) (h : rest r ≡ actives g) where
+module _ (g : Graph) (r : Remaining) (ok : Places (r .list) (r .len)) (h : rest r ≡ actives g) where
   pub linear-of : tab (linearAt (g .linear) (r .list) (r .len)) 64 ≡ linearOut g
   unfolding linearOut
   linear-of = linear-out r ok (g .linear) ∙ ap (linearOf (g .linear)) h

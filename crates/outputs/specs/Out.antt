@@ -16,10 +16,11 @@ rest r = take (r .len) (r .list)
 abbrev pub activeOf : List ℕ → ℕ → List ℕ
 activeOf ss n = those (λ i. eqb (getD ss i 0) 2) (upto n)
 
-pub record Places (r : Remaining) : Type 0 where
-  pub few : r .len ≤ 64
-  pub long : length (r .list) ≡ 64
-  pub each : (k : ℕ) → getD (r .list) k 0 < 64
+-- the first n of 64 places, each with a decision
+pub record Places (list : List ℕ) (n : ℕ) : Type 0 where
+  pub few : n ≤ 64
+  pub long : length list ≡ 64
+  pub each : (k : ℕ) → getD list k 0 < 64
 
 -- entry k of each output
 abbrev pub linearAt : List ℤ → List ℕ → ℕ → ℕ → ℤ

@@ -57,7 +57,7 @@ module _ (o : Objective) (fit : Fit o) (r : Ended) (w : Lent) (k : Ends (rule.en
   pub end-units : r .state .takes + r .state .blocks < 4294967296
   end-units = omega (arith, k .state .takes, k .state .blocks, ended-few o fit)
 
-  module _ (m : Remaining) (is : rest m ≡ activeOf (r .state .frame .states) (r .state .frame .n)) (ok : Places m) where
+  module _ (m : Remaining) (is : rest m ≡ activeOf (r .state .frame .states) (r .state .frame .n)) (ok : Places (m .list) (m .len)) where
     listed : rest m ≡ actives (graphIn (r .state) w)
     unfolding actives
     listed = is

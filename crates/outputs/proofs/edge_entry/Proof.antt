@@ -22,7 +22,13 @@ returns : tie.Need-returns
 returns c =
     let s = c .before in
     let a = s .args in
-    rw (row (a .a) (a .b) (s .pre .1), column (a .a) (a .b) (s .pre .1), lt-ltb (a .a) (a .t2 .len) (s .pre .0), le-ltb (a .b) (a .t2 .len) (c .if1 .taken))
+    rw (row (a .a) (a .b) (s .pre .1), column (a .a) (a .b) (s .pre .1), lt-ltb (a .a) (a .n) (s .pre .0), le-ltb (a .b) (a .n) (c .if1 .taken))
+
+cast-i : tie.Need-cast-i
+cast-i c = let s = c .before .before in omega (arith, s .pre .2 .each (s .args .a))
+
+cast-j : tie.Need-cast-j
+cast-j c = let s = c .before .before .before in omega (arith, s .pre .2 .each (s .args .b))
 
 mul-result : tie.Need-mul-result
 mul-result c =
@@ -48,8 +54,8 @@ returns-2 : tie.Need-returns-2
 returns-2 c =
     let s = c .before .before .before .before in
     let a = s .args in
-    let f : SFits w64 (getD (now (a .e)) (64 * getD (a .t2 .list) (a .a) 0 + getD (a .t2 .list) (a .b) 0) (pos 0)) = sfits-of (c .result .given) in
-    rd f ∙ rw (row (a .a) (a .b) (s .pre .1), column (a .a) (a .b) (s .pre .1), lt-ltb (a .a) (a .t2 .len) (s .pre .0), lt-ltb (a .b) (a .t2 .len) (c .before .before .before .if1 .left))
+    let f : SFits w64 (getD (now (a .e)) (64 * getD (now (a .list)) (a .a) 0 + getD (now (a .list)) (a .b) 0) (pos 0)) = sfits-of (c .result .given) in
+    rd f ∙ rw (row (a .a) (a .b) (s .pre .1), column (a .a) (a .b) (s .pre .1), lt-ltb (a .a) (a .n) (s .pre .0), lt-ltb (a .b) (a .n) (c .before .before .before .if1 .left))
 
 pub edge-entry-spec : {M : Type 1} → statement M
 edge-entry-spec =
@@ -57,9 +63,9 @@ edge-entry-spec =
     (tie.spec
     returns
     (λ c. search needs)
+    cast-i
     (λ c. search needs)
-    (λ c. search needs)
-    (λ c. search needs)
+    cast-j
     mul-result
     add-result
     mul-result-2

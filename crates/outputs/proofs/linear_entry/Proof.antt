@@ -15,7 +15,10 @@ use Rattle.outputs.proofs.linear_entry.Tie as tie
 returns : tie.Need-returns
 returns c =
     let a = c .before .args in
-    simp (le-ltb (a .k) (a .t2 .len) (c .if1 .taken))
+    simp (le-ltb (a .k) (a .n) (c .if1 .taken))
+
+cast-i : tie.Need-cast-i
+cast-i c = let s = c .before .before in omega (arith, s .pre .1 .each (s .args .k))
 
 mul-result : tie.Need-mul-result
 mul-result c = let s = c .before .before in omega (arith, s .pre .1 .each (s .args .k))
@@ -27,10 +30,10 @@ returns-2 : tie.Need-returns-2
 returns-2 c =
     let s = c .before .before .before in
     let a = s .args in
-    let f : SFits w64 (getD (now (a .lin)) (getD (a .t2 .list) (a .k) 0) (pos 0)) = sfits-of (c .result .given) in
-    rd f ∙ simp (lt-ltb (a .k) (a .t2 .len) (c .before .before .if1 .left))
+    let f : SFits w64 (getD (now (a .lin)) (getD (now (a .list)) (a .k) 0) (pos 0)) = sfits-of (c .result .given) in
+    rd f ∙ simp (lt-ltb (a .k) (a .n) (c .before .before .if1 .left))
 
 pub linear-entry-spec : {M : Type 1} → statement M
 linear-entry-spec =
     tie.close
-    (tie.spec returns (λ c. search needs) (λ c. search needs) mul-result element-copy-out-result returns-2)
+    (tie.spec returns (λ c. search needs) cast-i mul-result element-copy-out-result returns-2)

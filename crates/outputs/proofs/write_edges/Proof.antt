@@ -21,7 +21,7 @@ returns : tie.Need-returns
 returns c =
     let z = c .before in
     let w = z .before .before .before in
-    let s = w .before .before in
+    let s = w .before .before .before .before in
     let a = s .args in
     let o = now (a .out) in
     let f = edgeAt (now (a .e)) (a .r .list) (a .r .len) in

@@ -16,18 +16,18 @@ use Rattle.outputs.proofs.write_linear.Statement.{statement}
 use Rattle.outputs.proofs.write_linear.Tie as tie
 
 abbrev Inv-loop : tie.InvT-loop
-Inv-loop out₀ lin r k₀ out k = (k ≤ 64) × (length out ≡ length out₀) × (out ≡ tab (linearAt lin (r .list) (r .len)) k ++ drop k out₀)
+Inv-loop out₀ lin list n k₀ out k = (k ≤ 64) × (length out ≡ length out₀) × (out ≡ tab (linearAt lin list n) k ++ drop k out₀)
 
 abbrev μ-loop : tie.MeasureT-loop
-μ-loop out₀ lin r k₀ out k = 64 - k
+μ-loop out₀ lin list n k₀ out k = 64 - k
 
 loop-holds : tie.Need-loop-holds Inv-loop μ-loop
-loop-holds c = (omega arith, refl, fill-none (linearAt (now (c .args .lin)) (c .args .r .list) (c .args .r .len)) (now (c .args .out)))
+loop-holds c = let a = c .before .args in (omega arith, refl, fill-none (linearAt (now (a .lin)) (a .r .list) (a .r .len)) (now (a .out)))
 
 loop-again : tie.Need-loop-again Inv-loop μ-loop
 loop-again c =
-    let l = c .before .before .loop in
-    let a = c .before .before .before .args in
+    let l = c .before .before .before .loop in
+    let a = c .before .before .before .before .before .args in
     let f : SFits w64 (c .linear-entry .result) = sfits-of (c .linear-entry .ok) in
     let v = rd f ∙ c .linear-entry .ensures in (
       omega arith,
@@ -38,7 +38,7 @@ loop-again c =
 returns : tie.Need-returns Inv-loop μ-loop
 returns c =
     let l = c .before .loop in
-    let s = c .before .before in
+    let s = c .before .before .before in
     l .inv .2 ∙ fill-end (linearAt (now (s .args .lin)) (s .args .r .list) (s .args .r .len)) (now (s .args .out)) (l .k) 64 (s .pre .0) (omega arith)
 
 pub write-linear-spec : {M : Type 1} → statement M

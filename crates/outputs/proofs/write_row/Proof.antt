@@ -13,10 +13,10 @@ use Rattle.outputs.proofs.write_row.Statement.{statement}
 use Rattle.outputs.proofs.write_row.Tie as tie
 
 abbrev Inv-loop : tie.InvT-loop
-Inv-loop out₀ e r a b₀ out b = (b ≤ 64) × (length out ≡ length out₀) × Fills (edgeAt e (r .list) (r .len)) (64 * a) (64 * a + b) out₀ out
+Inv-loop out₀ e list n a b₀ out b = (b ≤ 64) × (length out ≡ length out₀) × Fills (edgeAt e list n) (64 * a) (64 * a + b) out₀ out
 
 abbrev μ-loop : tie.MeasureT-loop
-μ-loop out₀ e r a b₀ out b = 64 - b
+μ-loop out₀ e list n a b₀ out b = 64 - b
 
 loop-holds : tie.Need-loop-holds Inv-loop μ-loop
 loop-holds c = (omega arith, refl, λ l h i. i ∙ filled-at _ l (64 * c .args .a) (64 * c .args .a + 0) (omega arith))
@@ -31,7 +31,7 @@ loop-again c =
     let k = 64 * s .args .a + l .b in
     let f : SFits w64 (c .edge-entry .result) = sfits-of (c .edge-entry .ok) in
     let v = rd f ∙ c .edge-entry .ensures in
-    let r : k < 4096 = room (s .args .a) (l .b) (s .args .r .len) (s .pre .1) (s .pre .2 .few) (omega arith) in (
+    let r : k < 4096 = room (s .args .a) (l .b) (s .args .n) (s .pre .1) (s .pre .2 .few) (omega arith) in (
       omega arith,
       length-set (l .out) k (toZ w64 (ofZ w64 (c .edge-entry .result))) ∙ l .inv .1,
       λ o h i. fill-step _ o (l .out) k _ (omega (arith, h, r)) (l .inv .2 o h i) v ∙ filled-at _ o (k + 1) (64 * s .args .a + (l .b + 1)) (omega arith),

@@ -9,10 +9,10 @@ use Rattle.outputs.proofs.write_rows.Statement.{statement}
 use Rattle.outputs.proofs.write_rows.Tie as tie
 
 abbrev Inv-loop : tie.InvT-loop
-Inv-loop out₀ e r n a₀ out a = (a ≤ n) × (length out ≡ length out₀) × Fills (edgeAt e (r .list) (r .len)) 0 (64 * a) out₀ out
+Inv-loop out₀ e list n a₀ out a = (a ≤ n) × (length out ≡ length out₀) × Fills (edgeAt e list n) 0 (64 * a) out₀ out
 
 abbrev μ-loop : tie.MeasureT-loop
-μ-loop out₀ e r n a₀ out a = n - a
+μ-loop out₀ e list n a₀ out a = n - a
 
 loop-holds : tie.Need-loop-holds Inv-loop μ-loop
 loop-holds c = (omega arith, refl, λ l h i. i)
@@ -29,7 +29,7 @@ loop-again c =
 returns : tie.Need-returns Inv-loop μ-loop
 returns c =
     let l = c .before .loop in
-    λ o h i. l .inv .2 o h i ∙ filled-at _ o (64 * l .a) (64 * c .before .before .args .r .len) (omega arith)
+    λ o h i. l .inv .2 o h i ∙ filled-at _ o (64 * l .a) (64 * c .before .before .args .n) (omega arith)
 
 pub write-rows-spec : {M : Type 1} → statement M
 write-rows-spec =
