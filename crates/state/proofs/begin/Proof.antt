@@ -12,7 +12,7 @@ returns c =
       (λ l m h. record {
         graph = refl;
         shown = h;
-        queue = q .ensures .0 (a .frame .constant) l;
+        queue = q .ensures .0 (a .t3 .constant) l;
         kept = q .ensures .1;
         counted = refl;
         takes = refl;

@@ -20,7 +20,7 @@ returns c = λ S l₀ e₀ l m₀ m i g y h eg em en.
       graph = eg;
       shown = em;
       queue =
-          j .0 (a .frame .constant) l ∙ ap (λ (x : Graph). run.join (a .switches) x (these (a .near)) (items (a .s .queue) (now (a .ring)))) eg
+          j .0 (a .t4 .constant) l ∙ ap (λ (x : Graph). run.join (a .switches) x (these (a .near)) (items (a .s .queue) (now (a .ring)))) eg
           ∙ ap₂ (λ (js q : List ℕ). run.join (a .switches) g js q) en (h .queue);
       kept = j .1;
       counted = c .more .ensures ∙ ap (λ (t : run.Tally). run.plus t (tallyOf (a .counts))) (h .counted);
