@@ -9,8 +9,8 @@ ghost use Rattle.queue.specs.Items.{items, Kept};
 
 // Where the front stands in a ring of 64 places, which is lent, how many wait, and a mask of those that do.
 pub struct Queue {
-    pub head: usize,
-    pub len: usize,
+    pub head: u32,
+    pub len: u32,
     pub waiting: u64,
 }
 
@@ -35,13 +35,13 @@ impl Queue {
         requires { ⌜ Kept self (now ring) × (0 < self .len) ⌝ }
         ensures { λ r. ⌜ (items self (now (ring .entry)) ≡ r .decision ∷ items (r .rest) (now (ring .entry))) × (r .decision < 64) × Kept (r .rest) (now (ring .entry)) ⌝ }
     {
-        let h = self.head;
+        let h = self.head as usize;
         let n = self.len;
         let w = self.waiting;
         let d = ring[h] as usize;
         let one: u64 = 1 << d;
         let rest = Queue {
-            head: (h + 1) % 64,
+            head: (self.head + 1) % 64,
             len: n - 1,
             waiting: w ^ (w & one),
         };
@@ -59,7 +59,7 @@ impl Queue {
         let h = self.head;
         let n = self.len;
         let w = self.waiting;
-        let at = (h + n) % 64;
+        let at = ((h + n) % 64) as usize;
         let one: u64 = 1 << d;
         ring[at] = d as u8;
         Queue {

@@ -32,11 +32,11 @@ module _ (q : Queue) (ring : List ℕ) where
     split = subst (λ (xs : List ℕ). Apart 64 xs) parts (p .apart)
 
 element-copy-out-d : tie.Need-element-copy-out-d
-element-copy-out-d c = c .pre .0 .head
+element-copy-out-d c = c .before .pre .0 .head
 
 -- the front is a decision
-low : (c : lts.After-d reads.Pre reads.Post) → front (c .before .args .self) (now (c .before .args .ring)) < 64
-low c = apart-head (split (c .before .args .self) (now (c .before .args .ring)) (c .before .pre .0) (c .before .pre .1))
+low : (c : lts.After-d reads.Pre reads.Post) → front (c .before .before .args .self) (now (c .before .before .args .ring)) < 64
+low c = apart-head (split (c .before .before .args .self) (now (c .before .before .args .ring)) (c .before .before .pre .0) (c .before .before .pre .1))
 
 cast-d : tie.Need-cast-d
 cast-d c = omega (arith, low c)
@@ -46,20 +46,24 @@ shl-one c = low c
 
 returns : tie.Need-returns
 returns c =
-    let q = c .before .args .self in
-    let ring = now (c .before .args .ring) in
-    let p = c .before .pre .0 in
-    let l = c .before .pre .1 in
+    let at = c .before in
+    let s = at .before .before in
+    let q = s .args .self in
+    let ring = now (s .args .ring) in
+    let p = s .pre .0 in
+    let l = s .pre .1 in
     let e = parts q ring p l in (
       e,
-      low c,
+      low at,
       record {
         long = p .long;
         head = omega arith;
         apart = apart-tail (split q ring p l);
-        shown = shown-less (q .waiting) (others q ring) (front q ring) (low c) (split q ring p l) (λ k b. subst (λ (xs : List ℕ). bit (q .waiting) k ≡ mem k xs) e (p .shown k b));
+        shown = shown-less (q .waiting) (others q ring) (front q ring) (low at) (split q ring p l) (λ k b. subst (λ (xs : List ℕ). bit (q .waiting) k ≡ mem k xs) e (p .shown k b));
       },
     )
 
 pub pop-spec : {M : Type 1} → statement M
-pop-spec = tie.close (tie.spec element-copy-out-d cast-d shl-one (λ c. search needs) (λ c. search needs) returns)
+pop-spec =
+    tie.close
+    (tie.spec (λ c. search needs) element-copy-out-d cast-d shl-one (λ c. search needs) (λ c. search needs) returns)

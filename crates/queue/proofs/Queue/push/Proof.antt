@@ -41,4 +41,4 @@ returns c =
     )
 
 pub push-spec : {M : Type 1} → statement M
-push-spec = tie.close (tie.spec add-at (λ c. search needs) (λ c. search needs) (λ c. search needs) add-t9 returns)
+push-spec = tie.close (tie.spec add-at (λ c. search needs) (λ c. search needs) (λ c. search needs) (λ c. search needs) add-t9 returns)
