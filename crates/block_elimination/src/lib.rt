@@ -151,7 +151,7 @@ pub fn drop_all(
     let mut k: usize = 0;
     while k < count {
         let i = order[k];
-        let left = graph::drop_to(&mut *lin, &mut *edges, &mut *masks, g, 3, i);
+        let left = graph::drop_to(lin, edges, masks, g, 3, i);
         g = left;
         k = k + 1;
     }
@@ -186,8 +186,8 @@ pub fn eliminate_block(
 {
     let n = f.n;
     let mut out: [usize; 64] = [0; 64];
-    let width = small_block::boundary_of(&*edges, n, order, count, &mut out);
-    let best = minima(&*lin, &*edges, order, count, &out, width);
+    let width = small_block::boundary_of(edges, n, order, count, &mut out);
+    let best = minima(lin, edges, order, count, &out, width);
     let first = place(&out, width, 0);
     let second = place(&out, width, 1);
     let outside = Outside {
@@ -197,18 +197,9 @@ pub fn eliminate_block(
     };
     let winners = best.masks;
     let grown = block_steps(order, count, outside, &winners, steps);
-    let dropped = drop_all(&mut *lin, &mut *edges, &mut *masks, f, order, count);
+    let dropped = drop_all(lin, edges, masks, f, order, count);
     let table = best.table;
-    let left = low_degree::absorb(
-        &mut *lin,
-        &mut *edges,
-        &mut *masks,
-        dropped,
-        table,
-        width,
-        first,
-        second,
-    );
+    let left = low_degree::absorb(lin, edges, masks, dropped, table, width, first, second);
     Blocked {
         frame: left,
         steps: grown,

@@ -53,9 +53,9 @@ pub fn take_block(
     let order = found.order;
     let count = found.count;
     let done = block_elimination::eliminate_block(
-        &mut *lin,
-        &mut *edges,
-        &mut *masks,
+        lin,
+        edges,
+        masks,
         s.frame,
         &order,
         count,
@@ -65,7 +65,7 @@ pub fn take_block(
     let steps = done.steps;
     let n = frame.n;
     let states = frame.states;
-    let queue = waiting::first_queue(&*edges, &mut *ring, &states, n, switches);
+    let queue = waiting::first_queue(edges, ring, &states, n, switches);
     let members = Tally {
         eliminated: 0,
         three: 0,

@@ -96,7 +96,7 @@ pub fn add_pairs(
         let j = list[low] as usize;
         let k = list[high] as usize;
         let v = entries[mask];
-        graph::add_edge(&mut *edges, &mut *masks, j, k, v);
+        graph::add_edge(edges, masks, j, k, v);
         p = p + 1;
     }
 }
@@ -123,10 +123,10 @@ pub fn absorb_three(
     let e2 = entries[2];
     let e4 = entries[4];
     let g = graph::add_constant(f, e0);
-    graph::add_linear(&mut *lin, j, e1);
-    graph::add_linear(&mut *lin, k, e2);
-    graph::add_linear(&mut *lin, l, e4);
-    add_pairs(&mut *edges, &mut *masks, near, entries);
+    graph::add_linear(lin, j, e1);
+    graph::add_linear(lin, k, e2);
+    graph::add_linear(lin, l, e4);
+    add_pairs(edges, masks, near, entries);
     g
 }
 
@@ -167,8 +167,8 @@ pub fn eliminate_three(
         };
     }
     let step = low_degree::step_of(i, near, d);
-    let dropped = graph::drop_to(&mut *lin, &mut *edges, &mut *masks, f, 3, i);
-    let left = absorb_three(&mut *lin, &mut *edges, &mut *masks, dropped, near, e);
+    let dropped = graph::drop_to(lin, edges, masks, f, 3, i);
+    let left = absorb_three(lin, edges, masks, dropped, near, e);
     Tried {
         cubic: false,
         frame: left,

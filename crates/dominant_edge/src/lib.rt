@@ -131,8 +131,8 @@ pub fn turn_edges(
         let t = u64::trailing_zeros(rest) as usize;
         let w = row[t];
         if t != j {
-            graph::add_linear(&mut *lin, t, w);
-            graph::add_edge(&mut *edges, &mut *masks, j, t, -w);
+            graph::add_linear(lin, t, w);
+            graph::add_edge(edges, masks, j, t, -w);
         }
         rest = rest & (rest - 1);
     }
@@ -149,7 +149,7 @@ pub fn move_edges(edges: &mut [i64; 4096], masks: &mut [u64; 64], row: &[i64; 64
         let t = u64::trailing_zeros(rest) as usize;
         let w = row[t];
         if t != j {
-            graph::add_edge(&mut *edges, &mut *masks, j, t, w);
+            graph::add_edge(edges, masks, j, t, w);
         }
         rest = rest & (rest - 1);
     }
@@ -188,20 +188,20 @@ pub fn contract(
     let n = f.n;
     let a = lin[i];
     let w = edges[64 * i + j];
-    let row = graph::row_of(&*edges, i, n);
-    let dropped = graph::drop_to(&mut *lin, &mut *edges, &mut *masks, f, 3, i);
+    let row = graph::row_of(edges, i, n);
+    let dropped = graph::drop_to(lin, edges, masks, f, 3, i);
     if w > 0 {
         let left = graph::add_constant(dropped, a);
-        graph::add_linear(&mut *lin, j, -a);
-        turn_edges(&mut *lin, &mut *edges, &mut *masks, &row, m, j);
+        graph::add_linear(lin, j, -a);
+        turn_edges(lin, edges, masks, &row, m, j);
         let step = step_over(i, j, 1);
         return low_degree::Reduced {
             frame: left,
             step: step,
         };
     }
-    graph::add_linear(&mut *lin, j, a + w);
-    move_edges(&mut *edges, &mut *masks, &row, m, j);
+    graph::add_linear(lin, j, a + w);
+    move_edges(edges, masks, &row, m, j);
     let step = step_over(i, j, 2);
     low_degree::Reduced {
         frame: dropped,

@@ -93,7 +93,7 @@ pub fn wipe(edges: &mut [i64; 4096], masks: &mut [u64; 64], i: usize)
     ensures { λ _. ⌜ ((n : ℕ) → n ≤ 64 → Shows n (now (edges .entry)) (now (masks .entry))
         → (now (edges .exit) ≡ cleared i n (now (edges .entry))) × Shows n (now (edges .exit)) (now (masks .exit))) ⌝ }
 {
-    let mut rest = mask_at(&*masks, i);
+    let mut rest = mask_at(masks, i);
     while rest != 0 {
         let j = u64::trailing_zeros(rest) as usize;
         edges[64 * i + j] = 0;
@@ -175,9 +175,9 @@ pub fn add_term(
         × ((n : ℕ) → i < n → j < n → Shows n (now (edges .entry)) (now (masks .entry)) → Shows n (now (edges .exit)) (now (masks .exit))) ⌝ }
 {
     if i == j {
-        add_linear(&mut *lin, i, w);
+        add_linear(lin, i, w);
     } else {
-        add_edge(&mut *edges, &mut *masks, i, j, w);
+        add_edge(edges, masks, i, j, w);
     }
 }
 
@@ -200,7 +200,7 @@ pub fn add_terms(
         let i = firsts[k] as usize;
         let j = seconds[k] as usize;
         let w = term_weights[k];
-        add_term(&mut *lin, &mut *edges, &mut *masks, i, j, w);
+        add_term(lin, edges, masks, i, j, w);
         k = k + 1;
     }
 }
@@ -250,7 +250,7 @@ pub fn spread(lin: &mut [i64; 64], row: &[i64; 64], n: usize)
     while j < n {
         let w = row[j];
         if w != 0 {
-            add_linear(&mut *lin, j, w);
+            add_linear(lin, j, w);
         }
         j = j + 1;
     }
@@ -270,7 +270,7 @@ pub fn drop_to(
         × Shows (f .n) (now (edges .exit)) (now (masks .exit)) ⌝ }
 {
     lin[i] = 0;
-    wipe(&mut *edges, &mut *masks, i);
+    wipe(edges, masks, i);
     let mut g = f;
     g.states[i] = s;
     g
@@ -293,13 +293,13 @@ pub fn fix(
 {
     let n = f.n;
     if v == 0 {
-        return drop_to(&mut *lin, &mut *edges, &mut *masks, f, 0, i);
+        return drop_to(lin, edges, masks, f, 0, i);
     }
-    let row = row_of(&*edges, i, n);
+    let row = row_of(edges, i, n);
     let a = lin[i];
-    let dropped = drop_to(&mut *lin, &mut *edges, &mut *masks, f, 1, i);
+    let dropped = drop_to(lin, edges, masks, f, 1, i);
     let g = add_constant(dropped, a);
-    spread(&mut *lin, &row, n);
+    spread(lin, &row, n);
     g
 }
 
@@ -321,7 +321,7 @@ pub fn fix_all(
     while i < fixings.len() {
         let v = fixings[i];
         if v < 2 {
-            let g = fix(&mut *lin, &mut *edges, &mut *masks, f, i, v);
+            let g = fix(lin, edges, masks, f, i, v);
             f = g;
         }
         i = i + 1;
@@ -346,15 +346,8 @@ pub fn begin(
         × (mass (held r (now (lin .exit)) (now (edges .exit))) ≤ 2199023255552) × (r .n ≡ n)
         × Shows n (now (edges .exit)) (now (masks .exit)) ⌝ }
 {
-    load(&mut *lin, weights);
-    add_terms(
-        &mut *lin,
-        &mut *edges,
-        &mut *masks,
-        firsts,
-        seconds,
-        term_weights,
-    );
+    load(lin, weights);
+    add_terms(lin, edges, masks, firsts, seconds, term_weights);
     let f = opening(n);
-    fix_all(&mut *lin, &mut *edges, &mut *masks, f, fixings)
+    fix_all(lin, edges, masks, f, fixings)
 }

@@ -159,12 +159,12 @@ pub fn absorb(
     if count == 0 {
         return g;
     }
-    graph::add_linear(&mut *lin, j, t1 - t0);
+    graph::add_linear(lin, j, t1 - t0);
     if count == 1 {
         return g;
     }
-    graph::add_linear(&mut *lin, k, t2 - t0);
-    graph::add_edge(&mut *edges, &mut *masks, j, k, t3 - t1 - t2 + t0);
+    graph::add_linear(lin, k, t2 - t0);
+    graph::add_edge(edges, masks, j, k, t3 - t1 - t2 + t0);
     g
 }
 
@@ -187,12 +187,12 @@ pub fn eliminate(
     let d = table.deltas;
     let t = table.tees;
     let step = step_of(i, near, d);
-    let dropped = graph::drop_to(&mut *lin, &mut *edges, &mut *masks, f, 3, i);
+    let dropped = graph::drop_to(lin, edges, masks, f, 3, i);
     let count = near.count;
     let list = near.list;
     let j = list[0] as usize;
     let k = list[1] as usize;
-    let left = absorb(&mut *lin, &mut *edges, &mut *masks, dropped, t, count, j, k);
+    let left = absorb(lin, edges, masks, dropped, t, count, j, k);
     Reduced {
         frame: left,
         step: step,

@@ -61,7 +61,7 @@ fn pass(
                 units: units,
             };
         }
-        let t = take::take(&mut *lin, &mut *edges, &mut *masks, &mut *ring, s, switches);
+        let t = take::take(lin, edges, masks, ring, s, switches);
         if t.stepped {
             let at = steps.count;
             let step = t.step;
@@ -94,7 +94,7 @@ fn turn(
         × (r .due ≡ true → from .units < r .come .units) ⌝ }
 {
     let s = from.state;
-    let found = block_turn::due_block(&*edges, s, switches);
+    let found = block_turn::due_block(edges, s, switches);
     if found.count == 0 {
         return Turned {
             due: false,
@@ -102,16 +102,7 @@ fn turn(
         };
     }
     let before = from.steps;
-    let gone = block_turn::take_block(
-        &mut *lin,
-        &mut *edges,
-        &mut *masks,
-        &mut *ring,
-        s,
-        before,
-        found,
-        switches,
-    );
+    let gone = block_turn::take_block(lin, edges, masks, ring, s, before, found, switches);
     let state = gone.state;
     let steps = gone.steps;
     let next = Come {
@@ -164,47 +155,23 @@ pub fn run(
     ensures { λ r. ⌜ ((m q : List ℕ) × Ends (ran budget switches (begun switches (held frame (now (lin .entry)) (now (edges .entry))))) r (lent (now (lin .exit)) (now (edges .exit)) m q)) ⌝ }
 {
     let mut ring = [0u8; 64];
-    let first = state::begin(&*edges, &mut ring, frame, switches);
+    let first = state::begin(edges, &mut ring, frame, switches);
     let none = steps::no_steps();
     let start = Come {
         state: first,
         steps: none,
         units: 0,
     };
-    let mut come = pass(
-        &mut *lin,
-        &mut *edges,
-        &mut *masks,
-        &mut ring,
-        start,
-        switches,
-        budget,
-    );
+    let mut come = pass(lin, edges, masks, &mut ring, start, switches, budget);
     while come.units < budget {
-        let t = turn(
-            &mut *lin,
-            &mut *edges,
-            &mut *masks,
-            &mut ring,
-            come,
-            switches,
-            budget,
-        );
+        let t = turn(lin, edges, masks, &mut ring, come, switches, budget);
         let after = t.come;
         if t.due {
-            come = pass(
-                &mut *lin,
-                &mut *edges,
-                &mut *masks,
-                &mut ring,
-                after,
-                switches,
-                budget,
-            );
+            come = pass(lin, edges, masks, &mut ring, after, switches, budget);
         } else {
             return ends_at(after, true);
         }
     }
-    let more = is_due(&*edges, come.state, switches);
+    let more = is_due(edges, come.state, switches);
     ends_at(come, !more)
 }

@@ -51,7 +51,7 @@ pub fn begin(edges: &[i64; 4096], ring: &mut [u8; 64], frame: Frame, switches: u
     ensures { λ r. ⌜ ((l : List ℤ) (m : List ℕ) → Shows (frame .n) (now (edges .entry)) m → Holds (begun switches (held frame l (now (edges .entry)))) r (lent l (now (edges .entry)) m (now (ring .exit)))) × (r .frame ≡ frame) ⌝ }
 {
     let n = frame.n;
-    let queue = waiting::first_queue(edges, &mut *ring, &frame.states, n, switches);
+    let queue = waiting::first_queue(edges, ring, &frame.states, n, switches);
     let none = Tally {
         eliminated: 0,
         three: 0,
@@ -83,7 +83,7 @@ pub fn reduced(
     ensures { λ r. ⌜ Reduces s frame near counts switches r (now (edges .entry)) (now (ring .entry)) (now (ring .exit)) ⌝ }
 {
     let n = frame.n;
-    let queue = waiting::rejoin(edges, &mut *ring, &frame.states, n, switches, s.queue, near);
+    let queue = waiting::rejoin(edges, ring, &frame.states, n, switches, s.queue, near);
     let tally = more(s.tally, counts);
     State {
         frame: frame,

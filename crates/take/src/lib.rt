@@ -64,7 +64,7 @@ fn low(
     ensures { λ r. ⌜ Goes (go lowWay switches i) s (lent (now (lin .entry)) (now (edges .entry)) (now (masks .entry)) (now (ring .entry))) r (lent (now (lin .exit)) (now (edges .exit)) (now (masks .exit)) (now (ring .exit))) ⌝ }
 {
     let before = masks[i];
-    let done = low_degree::eliminate(&mut *lin, &mut *edges, &mut *masks, s.frame, near, i);
+    let done = low_degree::eliminate(lin, edges, masks, s.frame, near, i);
     let one = Tally {
         eliminated: 1,
         three: 0,
@@ -75,7 +75,7 @@ fn low(
     };
     let frame = done.frame;
     let step = done.step;
-    let next = state::reduced(&*edges, &mut *ring, s, frame, before, one, switches);
+    let next = state::reduced(edges, ring, s, frame, before, one, switches);
     Taken {
         state: next,
         step: step,
@@ -98,14 +98,7 @@ fn three(
     ensures { λ r. ⌜ Goes (λ S. go (cond (cubic (S .graph) i) failed threeWay) switches i S) s (lent (now (lin .entry)) (now (edges .entry)) (now (masks .entry)) (now (ring .entry))) r (lent (now (lin .exit)) (now (edges .exit)) (now (masks .exit)) (now (ring .exit))) ⌝ }
 {
     let before = masks[i];
-    let tried = degree_three::eliminate_three(
-        &mut *lin,
-        &mut *edges,
-        &mut *masks,
-        s.frame,
-        near,
-        i,
-    );
+    let tried = degree_three::eliminate_three(lin, edges, masks, s.frame, near, i);
     if tried.cubic {
         let next = state::skip(s);
         return without_step(next);
@@ -120,7 +113,7 @@ fn three(
     };
     let frame = tried.frame;
     let step = tried.step;
-    let next = state::reduced(&*edges, &mut *ring, s, frame, before, one, switches);
+    let next = state::reduced(edges, ring, s, frame, before, one, switches);
     Taken {
         state: next,
         step: step,
@@ -154,7 +147,7 @@ fn into(
     ensures { λ r. ⌜ Goes (go (intoWay j) switches i) s (lent (now (lin .entry)) (now (edges .entry)) (now (masks .entry)) (now (ring .entry))) r (lent (now (lin .exit)) (now (edges .exit)) (now (masks .exit)) (now (ring .exit))) ⌝ }
 {
     let before = masks[i];
-    let done = dominant_edge::contract(&mut *lin, &mut *edges, &mut *masks, s.frame, before, i, j);
+    let done = dominant_edge::contract(lin, edges, masks, s.frame, before, i, j);
     let weakly = one_if(weak);
     let one = Tally {
         eliminated: 0,
@@ -166,7 +159,7 @@ fn into(
     };
     let frame = done.frame;
     let step = done.step;
-    let next = state::reduced(&*edges, &mut *ring, s, frame, before, one, switches);
+    let next = state::reduced(edges, ring, s, frame, before, one, switches);
     Taken {
         state: next,
         step: step,
@@ -201,16 +194,7 @@ fn or_three(
     ensures { λ r. ⌜ Goes (λ S. go (orThree switches (S .graph) i nothing) switches i S) s (lent (now (lin .entry)) (now (edges .entry)) (now (masks .entry)) (now (ring .entry))) r (lent (now (lin .exit)) (now (edges .exit)) (now (masks .exit)) (now (ring .exit))) ⌝ }
 {
     if is_three(switches, near.count) {
-        return three(
-            &mut *lin,
-            &mut *edges,
-            &mut *masks,
-            &mut *ring,
-            s,
-            near,
-            i,
-            switches,
-        );
+        return three(lin, edges, masks, ring, s, near, i, switches);
     }
     without_step(s)
 }
@@ -240,41 +224,13 @@ fn or_dominant(
 {
     if waiting::on(switches, 4) {
         let m = masks[i];
-        let found = dominant_of(&*lin, &*edges, m, i);
+        let found = dominant_of(lin, edges, m, i);
         let Dominant::Neighbour(j, weak) = found else {
-            return or_three(
-                &mut *lin,
-                &mut *edges,
-                &mut *masks,
-                &mut *ring,
-                s,
-                near,
-                i,
-                switches,
-            );
+            return or_three(lin, edges, masks, ring, s, near, i, switches);
         };
-        return into(
-            &mut *lin,
-            &mut *edges,
-            &mut *masks,
-            &mut *ring,
-            s,
-            i,
-            j,
-            weak,
-            switches,
-        );
+        return into(lin, edges, masks, ring, s, i, j, weak, switches);
     }
-    or_three(
-        &mut *lin,
-        &mut *edges,
-        &mut *masks,
-        &mut *ring,
-        s,
-        near,
-        i,
-        switches,
-    )
+    or_three(lin, edges, masks, ring, s, near, i, switches)
 }
 
 // Low degree on and degree at most 2?
@@ -304,29 +260,11 @@ fn act(
     if states[i] != 2 {
         return without_step(s);
     }
-    let near = graph::neighbours(&*edges, &*masks, i);
+    let near = graph::neighbours(edges, masks, i);
     if is_low(switches, near.count) {
-        return low(
-            &mut *lin,
-            &mut *edges,
-            &mut *masks,
-            &mut *ring,
-            s,
-            near,
-            i,
-            switches,
-        );
+        return low(lin, edges, masks, ring, s, near, i, switches);
     }
-    or_dominant(
-        &mut *lin,
-        &mut *edges,
-        &mut *masks,
-        &mut *ring,
-        s,
-        near,
-        i,
-        switches,
-    )
+    or_dominant(lin, edges, masks, ring, s, near, i, switches)
 }
 
 // "Take from the front": a unit is used.
@@ -341,20 +279,12 @@ pub fn take(
     requires { ⌜ Takeable s (lent (now lin) (now edges) (now masks) (now ring)) ⌝ }
     ensures { λ r. ⌜ Takes s (lent (now (lin .entry)) (now (edges .entry)) (now (masks .entry)) (now (ring .entry))) switches r (lent (now (lin .exit)) (now (edges .exit)) (now (masks .exit)) (now (ring .exit))) ⌝ }
 {
-    let front = s.queue.pop(&*ring);
+    let front = s.queue.pop(ring);
     let i = front.decision;
     let rest = front.rest;
     let takes = s.takes;
     let mut t = s;
     t.queue = rest;
     t.takes = takes + 1;
-    act(
-        &mut *lin,
-        &mut *edges,
-        &mut *masks,
-        &mut *ring,
-        t,
-        i,
-        switches,
-    )
+    act(lin, edges, masks, ring, t, i, switches)
 }

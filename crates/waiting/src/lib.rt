@@ -61,7 +61,7 @@ fn join_one(
         return q;
     }
     if is_eligible(edges, n, switches, j) {
-        return q.push(&mut *ring, j);
+        return q.push(ring, j);
     }
     q
 }
@@ -80,7 +80,7 @@ pub fn first_queue(
     let mut q = Queue::new();
     let mut i: usize = 0;
     while i < n {
-        q = join_one(edges, &mut *ring, states, n, switches, q, i);
+        q = join_one(edges, ring, states, n, switches, q, i);
         i = i + 1;
     }
     q
@@ -103,7 +103,7 @@ pub fn rejoin(
     let mut rest = near;
     while rest != 0 {
         let j = u64::trailing_zeros(rest) as usize;
-        q = join_one(edges, &mut *ring, states, n, switches, q, j);
+        q = join_one(edges, ring, states, n, switches, q, j);
         rest = rest & (rest - 1);
     }
     q
