@@ -1,40 +1,24 @@
 -- The entries of the rules' table, and what they make of the graph.
 use mathlib.Core.Path.{_≡_, refl, ap, _∙_}
-use mathlib.Core.Bool.{Bool, true, false, cond}
 use mathlib.Core.List.{List}
-use Prim.Native.Nat.{ℕ, _+_, _-_, _^_, _<_, _≤_}
+use Prim.Native.Nat.{ℕ, _<_}
 use native.Mathlib.Omega.{arith}
 use lib.ListN.{getD, set}
-use lib.IntN.{ℤ, pos, _+ℤ_, _-ℤ_}
-use Rattle.whole.specs.Parts.{∣_∣}
-use Rattle.whole.specs.Ints.{ints}
-use Rattle.whole.specs.Words.{tab, bit}
+use lib.IntN.{ℤ, pos, _+ℤ_}
+use Rattle.whole.specs.Words.{tab}
 use Rattle.whole.specs.Lists.{tab-at}
 use Rattle.rules.specs.Graph.{Graph, neighbours, addConstant, addLinear, dropTo}
 use Rattle.rules.specs.Eliminate.{tee}
-use Rattle.rules.specs.DegreeThree.{pass, moebius, pairs, addPairs, absorb3, eliminate3}
+use Rattle.rules.specs.DegreeThree.{moebius, pairs, addPairs, absorb3, eliminate3}
 use Rattle.graph.specs.Held.{held, withConstant, DoesEdges}
 use Rattle.graph.specs.Near.{nearOf}
 use Rattle.graph.specs.NearLaws.{near-list}
-use Rattle.accepted.specs.Small.{Small, small-tab}
 use Rattle.graph.specs.declared.Frame.{Frame}
 use Rattle.graph.specs.declared.Near.{Near}
 
 pub moebius-table : (t : ℕ → ℤ) → tab (moebius (λ m. getD (tab t 8) m (pos 0))) 8 ≡ tab (moebius t) 8
 unfolding tab moebius
 moebius-table t = refl
-
--- a pass at most doubles
-pass-small : (b c : ℕ) (t : ℕ → ℤ) → ((m : ℕ) → ∣ t m ∣ ≤ c) → (m : ℕ) → ∣ pass b t m ∣ ≤ c + c
-pass-small b c t h m = go (bit m b) (h m) (h (m - 2 ^ b))
-  where
-    go : (x : Bool) → ∣ t m ∣ ≤ c → ∣ t (m - 2 ^ b) ∣ ≤ c → ∣ cond x (t m -ℤ t (m - 2 ^ b)) (t m) ∣ ≤ c + c
-    go true p q = simp ints (omega arith)
-    go false p q = omega arith
-
-pub entries-small : (t : ℕ → ℤ) → ((m : ℕ) → ∣ t m ∣ ≤ 2 ^ 43) → Small (2 ^ 46) (tab (moebius t) 8)
-unfolding moebius
-entries-small t h = small-tab (moebius t) 8 (pass-small 2 (2 ^ 45) (pass 1 (pass 0 t)) (pass-small 1 (2 ^ 44) (pass 0 t) (pass-small 0 (2 ^ 43) t h)))
 
 pub absorb-made : (e : ℕ → ℤ) (near : List ℕ) (f g : Frame) (l l₁ l₂ l₃ d d₁ : List ℤ) → g ≡ withConstant f (f .constant +ℤ e 0)
     → l₁ ≡ set l (getD near 0 0) (getD l (getD near 0 0) (pos 0) +ℤ e 1)

@@ -16,7 +16,7 @@ use mir.Val.{SFits, toZ, ofZ}
 use borrow.Author.Tests.{ne-eqb}
 use Rattle.whole.specs.Parts.{∣_∣}
 use Rattle.whole.specs.Ints.{ints, fit-lo, rd}
-use Rattle.whole.specs.Cmp.{lt-ind, below0-abs}
+use Rattle.whole.specs.Cmp.{lt-ind, below0-abs, above0-abs}
 use Rattle.whole.specs.Words.{isZeroZ, below0, above0}
 use Rattle.whole.specs.Masks.{these}
 use Rattle.rules.specs.Graph.{Graph, edge}
@@ -83,29 +83,21 @@ test-is g i j l h w p q r = rw (p, q, r) (go (ltZ (pos 0) (edge g i j)) (lo g i)
     go false l h w = (refl, refl)
 
 -- ---- one turn of the bounds, as the code makes it: kept and read back
-above0-abs : (w : ℤ) → ∣ above0 w ∣ ≤ ∣ w ∣
-above0-abs w = lt-ind w (pos 0) (λ t. ∣ cond t (pos 0) w ∣ ≤ ∣ w ∣) (λ e. omega arith) (λ e. omega arith)
-
 pub sum-next : (x x′ v n n′ s : ℤ) → x′ ≡ x +ℤ v → n ≡ v +ℤ n′ → x +ℤ n ≡ s → x′ +ℤ n′ ≡ s
 sum-next x x′ v n n′ s p q e = rw p (simp ints (omega (arith, simp ints at q, simp ints at e)))
 
 pub sum-end : (x n y : ℤ) → n ≡ pos 0 → x +ℤ n ≡ y → x ≡ y
 sum-end x n y p e = simp ints (omega (arith, simp ints at e, simp ints at p))
 
-pub record Turn (l h w r : ℤ) (b : ℕ) : Type 0 where
+pub record Turn (l h w r : ℤ) : Type 0 where
   pub above-fits : SFits w64 (toZ w64 (ofZ w64 w) -ℤ toZ w64 (ofZ w64 r))
   pub lo-fits : SFits w64 (l +ℤ toZ w64 (ofZ w64 r))
   pub hi-fits : SFits w64 (h +ℤ toZ w64 (ofZ w64 (toZ w64 (ofZ w64 w) -ℤ toZ w64 (ofZ w64 r))))
   pub lo-next : toZ w64 (ofZ w64 (l +ℤ toZ w64 (ofZ w64 r))) ≡ l +ℤ below0 w
   pub hi-next : toZ w64 (ofZ w64 (h +ℤ toZ w64 (ofZ w64 (toZ w64 (ofZ w64 w) -ℤ toZ w64 (ofZ w64 r))))) ≡ h +ℤ above0 w
-  pub lo-small : ∣ toZ w64 (ofZ w64 (l +ℤ toZ w64 (ofZ w64 r))) ∣ ≤ b + 2199023255552
-  pub hi-small : ∣ toZ w64 (ofZ w64 (h +ℤ toZ w64 (ofZ w64 (toZ w64 (ofZ w64 w) -ℤ toZ w64 (ofZ w64 r))))) ∣ ≤ b + 2199023255552
 
-plus : (b : ℕ) (x y : ℤ) → ∣ x ∣ ≤ b → ∣ y ∣ ≤ 2199023255552 → ∣ x +ℤ y ∣ ≤ b + 2199023255552
-plus b x y p q = simp ints (omega arith)
-
-pub made : (l h w r : ℤ) (b : ℕ) → ∣ l ∣ ≤ b → ∣ h ∣ ≤ b → ∣ w ∣ ≤ 2199023255552 → b ≤ 2 ^ 50 → r ≡ below0 (toZ w64 (ofZ w64 w)) → Turn l h w r b
-made l h w r b hl hh hw hb f =
+pub made : (l h w r : ℤ) → ∣ l ∣ ≤ 2 ^ 50 → ∣ h ∣ ≤ 2 ^ 50 → ∣ w ∣ ≤ 2199023255552 → r ≡ below0 (toZ w64 (ofZ w64 w)) → Turn l h w r
+made l h w r hl hh hw f =
     let fits : SFits w64 w = fit w (omega arith) in
     let back : toZ w64 (ofZ w64 r) ≡ below0 w = read-below w r fits f in
     let d : toZ w64 (ofZ w64 w) -ℤ toZ w64 (ofZ w64 r) ≡ above0 w = rw (rd fits, back) (above-is w) in
@@ -113,14 +105,10 @@ made l h w r b hl hh hw hb f =
     let above : toZ w64 (ofZ w64 (toZ w64 (ofZ w64 w) -ℤ toZ w64 (ofZ w64 r))) ≡ above0 w = rd a ∙ d in
     let lf : SFits w64 (l +ℤ toZ w64 (ofZ w64 r)) = rw back (sum-fits l (below0 w) (omega arith) (omega (arith, below0-abs w))) in
     let hf : SFits w64 (h +ℤ toZ w64 (ofZ w64 (toZ w64 (ofZ w64 w) -ℤ toZ w64 (ofZ w64 r)))) = rw above (sum-fits h (above0 w) (omega arith) (omega (arith, above0-abs w))) in
-    let ln : toZ w64 (ofZ w64 (l +ℤ toZ w64 (ofZ w64 r))) ≡ l +ℤ below0 w = rd lf ∙ ap (λ (z : ℤ). l +ℤ z) back in
-    let hn : toZ w64 (ofZ w64 (h +ℤ toZ w64 (ofZ w64 (toZ w64 (ofZ w64 w) -ℤ toZ w64 (ofZ w64 r))))) ≡ h +ℤ above0 w = rd hf ∙ ap (λ (z : ℤ). h +ℤ z) above in
     record {
       above-fits = a;
       lo-fits = lf;
       hi-fits = hf;
-      lo-next = ln;
-      hi-next = hn;
-      lo-small = rw ln (plus b l (below0 w) hl (omega (arith, below0-abs w)));
-      hi-small = rw hn (plus b h (above0 w) hh (omega (arith, above0-abs w)));
+      lo-next = rd lf ∙ ap (λ (z : ℤ). l +ℤ z) back;
+      hi-next = rd hf ∙ ap (λ (z : ℤ). h +ℤ z) above;
     }

@@ -1,6 +1,6 @@
 -- The edges of a decision that has gone are given to another, turn by turn.
 use mathlib.Core.Path.{_≡_, refl, sym, ap, _∙_, subst}
-use mathlib.Core.Bool.{Bool, true, false, cond}
+use mathlib.Core.Bool.{Bool, true, false, cond, true≢false}
 use mathlib.Core.List.{List, [], _∷_, _++_}
 use mathlib.Core.Logic.{_≢_}
 use Prim.Native.Nat.{ℕ, zero, suc, _+_, _*_, _-_, _^_, _<_, _≤_}
@@ -9,6 +9,7 @@ use lib.Dec.{eqb}
 use lib.Bits.{bitAnd}
 use lib.Count.{trailingZeros}
 use lib.ListN.{getD, set, replicate}
+use lib.Seq.{getD-set-other}
 use lib.IntN.{ℤ, pos, negℤ, _+ℤ_, _-ℤ_}
 use mir.Syntax.{w64}
 use mir.Val.{SFits, toZ, ofZ}
@@ -17,9 +18,11 @@ use Rattle.whole.specs.Parts.{∣_∣}
 use Rattle.whole.specs.Ints.{ints, rd}
 use Rattle.whole.specs.Words.{mem, tab}
 use Rattle.whole.specs.Lists.{tab-at}
-use Rattle.whole.specs.Masks.{these, first-in}
-use Rattle.whole.specs.Members.{in-tail}
-use Rattle.low_degree.proofs.Laws.{fit, read, gain-fits}
+use Rattle.whole.specs.Masks.{these, these-below, these-apart, first-in}
+use Rattle.whole.specs.Members.{in-tail, apart-new}
+use Rattle.whole.specs.Pigeon.{Apart}
+use Rattle.low_degree.proofs.Laws.{fit, read}
+use Rattle.size_rule.specs.Sizes.{neg-size, gain-size}
 use Rattle.rules.specs.Graph.{Graph, lin, edge, neighbours, addConstant, addLinear, addEdge, dropTo}
 use Rattle.rules.specs.Eliminate.{step}
 use Rattle.rules.specs.Record.{hold}
@@ -29,10 +32,10 @@ use Rattle.graph.specs.Held.{held, withConstant, Does, DoesEdges}
 use Rattle.graph.specs.HeldLaws.{linear-gain}
 use Rattle.graph.specs.NearLaws.{mem-inside}
 use Rattle.graph.specs.Shows.{Shows}
-use Rattle.accepted.specs.Small.{Small, small-more, small-gains, small-tab}
+use Rattle.accepted.specs.Small.{Small, small-tab}
 use Rattle.graph.specs.declared.Frame.{Frame}
 use Rattle.dominant_edge.specs.Answer.{Gone, Shown-on}
-use Rattle.dominant_edge.proofs.Taking.{turns, parts, low, left-fits, one-more}
+use Rattle.dominant_edge.proofs.Taking.{parts, low, left-fits}
 
 -- ---- the two walks over the decision's neighbours
 abbrev pub turned-by : ℕ → ℕ → ℤ → Graph → Graph
@@ -55,25 +58,31 @@ module _ (old : Graph) (i j : ℕ) where
   unfolding move
   move-none js g e = ap (λ (ks : List ℕ). move old i j ks g) e
 
--- ---- what both keep: those left are of the mask, the edges are small, and the masks show them
-abbrev pub limit : ℕ → ℕ
-limit rest = 2 ^ 50 + turns rest * 2199023255552
+-- a place that has gained nothing yet
+pub gain-fits-once : {before : List ℤ} (now : List ℤ) (k : ℕ) (v : ℤ) → Small (2 ^ 50) before → getD now k (pos 0) ≡ getD before k (pos 0) → ∣ v ∣ ≤ 2199023255552 → SFits w64 (getD now k (pos 0) +ℤ v)
+gain-fits-once now k v s e h = fit (getD now k (pos 0) +ℤ v) (omega (arith, gain-size now k v s e h))
+
+-- ---- what both keep: those left are of the mask, none of their edges to j has changed, and the masks show the edges
+abbrev pub Alike : ℕ → List ℤ → List ℤ → ℕ → Type 0
+Alike j e₀ e t = (getD e (64 * j + t) (pos 0) ≡ getD e₀ (64 * j + t) (pos 0)) × (getD e (64 * t + j) (pos 0) ≡ getD e₀ (64 * t + j) (pos 0))
 
 pub record Keeps (row : List ℤ) (m j rest : ℕ) (e₀ : List ℤ) (ms₀ : List ℕ) (e : List ℤ) (ms : List ℕ) : Type 0 where
   pub below : j < 64
   pub weights : Small 2199023255552 row
+  pub small : Small (2 ^ 50) e₀
   pub fits : rest < 2 ^ 64
   pub among : (t : ℕ) → mem t (these rest) ≡ true → mem t (these m) ≡ true
-  pub small : Small (limit rest) e
+  pub alike : (t : ℕ) → mem t (these rest) ≡ true → Alike j e₀ e t
   pub shown : Shown-on m j e₀ ms₀ e ms
 
 pub keeps-begin : {row : List ℤ} {j : ℕ} (m : ℕ) (e : List ℤ) (ms : List ℕ) → j < 64 → Small 2199023255552 row → m < 2 ^ 64 → Small (2 ^ 50) e → Keeps row m j m e ms e ms
 keeps-begin m e ms b w h s = record {
   below = b;
   weights = w;
+  small = s;
   fits = h;
   among = λ t q. q;
-  small = small-more (limit m) s (omega arith);
+  alike = λ t q. (refl, refl);
   shown = λ n p q r. r;
 }
 
@@ -91,8 +100,18 @@ module _ {row e₀ e : List ℤ} {m j rest : ℕ} {ms₀ ms : List ℕ} (k : Kee
   pub at-low : at < 64
   at-low = low rest d (k .fits)
 
+  pub at-in : mem at (these rest) ≡ true
+  at-in = first-in rest d (k .fits)
+
   at-among : mem at (these m) ≡ true
-  at-among = k .among at (first-in rest d (k .fits))
+  at-among = k .among at at-in
+
+  -- one that is left after it is another, and was left before
+  pub still : (t : ℕ) → mem t (these left) ≡ true → mem t (these rest) ≡ true
+  still t q = ap (mem t) (parts rest d (k .fits)) ∙ in-tail t at (these left) q
+
+  pub other : (t : ℕ) → mem t (these left) ≡ true → t ≢ at
+  other t q e = true≢false (sym q ∙ ap (λ (x : ℕ). mem x (these left)) e ∙ apart-new (subst (Apart 64) (parts rest d (k .fits)) (these-apart rest)))
 
   pub weight-small : ∣ weight ∣ ≤ 2199023255552
   weight-small = k .weights .each at
@@ -100,34 +119,35 @@ module _ {row e₀ e : List ℤ} {m j rest : ℕ} {ms₀ ms : List ℕ} (k : Kee
   pub weight-read : toZ w64 (ofZ w64 weight) ≡ weight
   weight-read = read weight (omega (arith, weight-small))
 
-  pub in-limit : limit rest ≤ 2 ^ 60
-  in-limit = omega arith
-
-  pub more : limit rest + 2199023255552 ≤ limit left
-  more = omega (arith, one-more rest d (k .fits))
-
   pub edge-fits : (v : ℤ) → ∣ v ∣ ≤ 2199023255552 → (j < 64) × (at < 64) × SFits w64 (getD e (64 * j + at) (pos 0) +ℤ v) × SFits w64 (getD e (64 * at + j) (pos 0) +ℤ v)
   edge-fits v h =
-      (k .below, at-low, gain-fits (64 * j + at) v (k .small) in-limit (omega arith), gain-fits (64 * at + j) v (k .small) in-limit (omega arith))
+      let same = k .alike at at-in in
+      (k .below, at-low, gain-fits-once e (64 * j + at) v (k .small) (same .0) h, gain-fits-once e (64 * at + j) v (k .small) (same .1) h)
 
-  keeps : (e′ : List ℤ) (ms′ : List ℕ) → Small (limit left) e′ → ((n : ℕ) → j < n → at < n → Shows n e ms → Shows n e′ ms′) → Keeps row m j left e₀ ms₀ e′ ms′
+  keeps : (e′ : List ℤ) (ms′ : List ℕ) → ((t : ℕ) → t < 64 → t ≢ at → Alike j e e′ t) → ((n : ℕ) → j < n → at < n → Shows n e ms → Shows n e′ ms′) → Keeps row m j left e₀ ms₀ e′ ms′
   keeps e′ ms′ s f = record {
     below = k .below;
     weights = k .weights;
+    small = k .small;
     fits = left-fits rest d (k .fits);
-    among = λ t q. k .among t (ap (mem t) (parts rest d (k .fits)) ∙ in-tail t at (these left) q);
-    small = s;
+    among = λ t q. k .among t (still t q);
+    alike = λ t q.
+        let same = s t (these-below left t q) (other t q) in
+        let was = k .alike t (still t q) in
+        (same .0 ∙ was .0, same .1 ∙ was .1);
     shown = λ n b q r. f n b (q at at-among) (k .shown n b q r);
   }
 
   pub keeps-same : Keeps row m j left e₀ ms₀ e ms
-  keeps-same = keeps e ms (small-more (limit left) (k .small) (omega (arith, more))) (λ n b q r. r)
+  keeps-same = keeps e ms (λ t l n. (refl, refl)) (λ n b q r. r)
 
-  pub keeps-gain : (v : ℤ) (e′ : List ℤ) (ms′ : List ℕ) → ∣ v ∣ ≤ 2199023255552
+  pub keeps-gain : (v : ℤ) (e′ : List ℤ) (ms′ : List ℕ)
       → e′ ≡ set (set e (64 * j + at) (getD e (64 * j + at) (pos 0) +ℤ v)) (64 * at + j) (getD e (64 * at + j) (pos 0) +ℤ v)
       → ((n : ℕ) → j < n → at < n → Shows n e ms → Shows n e′ ms′) → Keeps row m j left e₀ ms₀ e′ ms′
-  keeps-gain v e′ ms′ h q f =
-      keeps e′ ms′ (subst (Small (limit left)) (sym q) (small-more (limit left) (small-gains (64 * j + at) (64 * at + j) v (k .small) h) more)) f
+  keeps-gain v e′ ms′ q f = keeps e′ ms′ (λ t l n. (same (64 * j + t) (λ z. n (omega (arith, k .below, at-low))) (λ z. n (omega (arith, k .below, at-low))), same (64 * t + j) (λ z. n (omega (arith, k .below, at-low))) (λ z. n (omega (arith, k .below, at-low))))) f
+    where
+      same : (p : ℕ) → p ≢ 64 * j + at → p ≢ 64 * at + j → getD e′ p (pos 0) ≡ getD e p (pos 0)
+      same p x y = rw q (getD-set-other (set e (64 * j + at) (getD e (64 * j + at) (pos 0) +ℤ v)) (64 * at + j) p _ (pos 0) y ∙ getD-set-other e (64 * j + at) p _ (pos 0) x)
 
   -- of a walk by which each but j gives, by `give`, the edge that i had to it
   module _ {old : Graph} {i : ℕ} (gone : Gone row m old i) (walk : List ℕ → Graph → Graph) (give : ℕ → ℤ → Graph → Graph)
@@ -144,16 +164,13 @@ module _ {row e₀ e : List ℤ} {m j rest : ℕ} {ms₀ ms : List ℕ} (k : Kee
     pub passes-by : at ≡ j → walk (these rest) g ≡ walk (these left) g
     passes-by q = next true (eq-eqb at j q)
 
-pub minus-at-most : {b : ℕ} (w : ℤ) → ∣ w ∣ ≤ b → ∣ negℤ w ∣ ≤ b
-minus-at-most w h = simp ints (omega arith)
-
 -- a weight's negative, kept and read back
 module _ (w : ℤ) (h : ∣ w ∣ ≤ 2 ^ 59) where
   minus-is : pos 0 -ℤ toZ w64 (ofZ w64 w) ≡ negℤ w
   minus-is = rw (read w (omega arith)) (simp ints (omega arith))
 
   pub minus-fits : SFits w64 (pos 0 -ℤ toZ w64 (ofZ w64 w))
-  minus-fits = rw minus-is (fit (negℤ w) (omega (arith, minus-at-most w h)))
+  minus-fits = rw minus-is (fit (negℤ w) (omega (arith, neg-size w h)))
 
   pub minus : toZ w64 (ofZ w64 (pos 0 -ℤ toZ w64 (ofZ w64 w))) ≡ negℤ w
   minus = rd minus-fits ∙ minus-is

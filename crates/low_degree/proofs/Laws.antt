@@ -2,10 +2,9 @@
 use mathlib.Core.Path.{_≡_, refl, ap, ap₂, _∙_}
 use mathlib.Core.Bool.{Bool, true, false, cond}
 use mathlib.Core.List.{List, [], _∷_}
-use Prim.Native.Nat.{ℕ, suc, _+_, _*_, _-_, _^_, _<_, _≤_}
+use Prim.Native.Nat.{ℕ, zero, suc, _+_, _*_, _-_, _^_, _<_, _≤_}
 use native.Mathlib.Omega.{arith}
 use native.Mathlib.Numerals.{add-one}
-use native.Mathlib.Nat.{pow-le-pow-right}
 use lib.ListN.{length, getD, set, take}
 use lib.IntN.{ℤ, pos, _+ℤ_, _-ℤ_}
 use mir.Syntax.{w64}
@@ -17,11 +16,12 @@ use Rattle.whole.specs.Cmp.{lt-ind}
 use Rattle.whole.specs.Lists.{tab-at}
 use Rattle.rules.specs.Graph.{Graph, neighbours, addConstant, addLinear, addEdge, dropTo}
 use Rattle.rules.specs.Eliminate.{tee, absorb, eliminate}
-use Rattle.graph.specs.Near.{nearOf}
+use Rattle.graph.specs.Near.{three, nearOf}
 use Rattle.graph.specs.NearLaws.{near-count, near-list}
 use Rattle.graph.specs.declared.Near.{Near}
 use Rattle.graph.specs.Held.{held, withConstant}
 use Rattle.accepted.specs.Small.{Small}
+use Rattle.size_rule.specs.Sizes.{delta-size}
 use Rattle.graph.specs.declared.Frame.{Frame}
 use Rattle.low_degree.specs.Table.{deltasOf}
 
@@ -42,50 +42,91 @@ read-below z r f e =
     rw k (lt-ind z (pos 0) (λ t. toZ w64 (ofZ w64 (cond t z (pos 0))) ≡ cond t z (pos 0)) (λ h. rd f) (λ h. refl))
 
 -- ---- the table
--- the sums that the code makes, each of which fits
-pub record Sums (a x y z : ℤ) : Type 0 where
-  pub a0 : SFits w64 a
-  pub x0 : SFits w64 x
-  pub y0 : SFits w64 y
-  pub z0 : SFits w64 z
-  pub s1 : SFits w64 (a +ℤ x)
-  pub s2 : SFits w64 (a +ℤ y)
-  pub s3 : SFits w64 (a +ℤ x +ℤ y)
-  pub s4 : SFits w64 (a +ℤ z)
-  pub s5 : SFits w64 (a +ℤ x +ℤ z)
-  pub s6 : SFits w64 (a +ℤ y +ℤ z)
-  pub s7 : SFits w64 (a +ℤ x +ℤ y +ℤ z)
+small-three : {b : ℕ} {ws : List ℤ} → Small b ws → Small b (three ws (pos 0))
+small-three {b} {ws} s = record { each = at }
+  where
+    at : (k : ℕ) → ∣ getD (three ws (pos 0)) k (pos 0) ∣ ≤ b
+    at zero = s .each 0
+    at (suc zero) = s .each 1
+    at (suc (suc zero)) = s .each 2
+    at (suc (suc (suc k))) = omega arith
 
-pub sums : (a x y z : ℤ) → ∣ a ∣ ≤ 1099511627776 → ∣ x ∣ ≤ 2199023255552 → ∣ y ∣ ≤ 2199023255552 → ∣ z ∣ ≤ 2199023255552 → Sums a x y z
-sums a x y z h i j k = record {
-  a0 = simp ints (omega arith);
-  x0 = simp ints (omega arith);
-  y0 = simp ints (omega arith);
-  z0 = simp ints (omega arith);
-  s1 = simp ints (omega arith);
-  s2 = simp ints (omega arith);
-  s3 = simp ints (omega arith);
-  s4 = simp ints (omega arith);
-  s5 = simp ints (omega arith);
-  s6 = simp ints (omega arith);
-  s7 = simp ints (omega arith);
-}
+module _ (a : ℤ) (ws : List ℤ) where
+  abbrev x : ℤ
+  x = getD ws 0 (pos 0)
 
-same : {x y : ℤ} {xs ys : List ℤ} → x ≡ y → xs ≡ ys → x ∷ xs ≡ y ∷ ys
-same p q = rw (p, q)
+  abbrev y : ℤ
+  y = getD ws 1 (pos 0)
 
-pub deltas-are : (a : ℤ) (ws : List ℤ) → let x = getD ws 0 (pos 0) in let y = getD ws 1 (pos 0) in let z = getD ws 2 (pos 0) in
-    a ∷ (a +ℤ x) ∷ (a +ℤ y) ∷ (a +ℤ x +ℤ y) ∷ (a +ℤ z) ∷ (a +ℤ x +ℤ z) ∷ (a +ℤ y +ℤ z) ∷ (a +ℤ x +ℤ y +ℤ z) ∷ [] ≡ deltasOf a ws
-unfolding deltasOf tab chosen
-deltas-are a ws =
-    same (simp ints (omega arith))
-    (same (simp ints (omega arith))
-    (same (simp ints (omega arith))
-    (same (simp ints (omega arith))
-    (same (simp ints (omega arith))
-    (same (simp ints (omega arith))
-    (same (simp ints (omega arith))
-    (same (simp ints (omega arith)) refl)))))))
+  abbrev z : ℤ
+  z = getD ws 2 (pos 0)
+
+  abbrev delta : ℕ → ℤ
+  delta m = a +ℤ chosen (three ws (pos 0)) m
+
+  -- the sums that the code makes
+  record Sums : Type 0 where
+    e0 : a ≡ delta 0
+    e1 : a +ℤ x ≡ delta 1
+    e2 : a +ℤ y ≡ delta 2
+    e3 : a +ℤ x +ℤ y ≡ delta 3
+    e4 : a +ℤ z ≡ delta 4
+    e5 : a +ℤ x +ℤ z ≡ delta 5
+    e6 : a +ℤ y +ℤ z ≡ delta 6
+    e7 : a +ℤ x +ℤ y +ℤ z ≡ delta 7
+
+  sums : Sums
+  unfolding chosen
+  sums = record {
+    e0 = simp ints (omega arith);
+    e1 = simp ints (omega arith);
+    e2 = simp ints (omega arith);
+    e3 = simp ints (omega arith);
+    e4 = simp ints (omega arith);
+    e5 = simp ints (omega arith);
+    e6 = simp ints (omega arith);
+    e7 = simp ints (omega arith);
+  }
+
+  pub deltas-are : a ∷ (a +ℤ x) ∷ (a +ℤ y) ∷ (a +ℤ x +ℤ y) ∷ (a +ℤ z) ∷ (a +ℤ x +ℤ z) ∷ (a +ℤ y +ℤ z) ∷ (a +ℤ x +ℤ y +ℤ z) ∷ [] ≡ deltasOf a ws
+  unfolding deltasOf tab
+  deltas-are = let r = sums in same (r .e0) (same (r .e1) (same (r .e2) (same (r .e3) (same (r .e4) (same (r .e5) (same (r .e6) (same (r .e7) refl)))))))
+    where
+      same : {u v : ℤ} {us vs : List ℤ} → u ≡ v → us ≡ vs → u ∷ us ≡ v ∷ vs
+      same p q = rw (p, q)
+
+  -- each of them fits
+  pub record Fits : Type 0 where
+    pub a0 : SFits w64 a
+    pub x0 : SFits w64 x
+    pub y0 : SFits w64 y
+    pub z0 : SFits w64 z
+    pub s1 : SFits w64 (a +ℤ x)
+    pub s2 : SFits w64 (a +ℤ y)
+    pub s3 : SFits w64 (a +ℤ x +ℤ y)
+    pub s4 : SFits w64 (a +ℤ z)
+    pub s5 : SFits w64 (a +ℤ x +ℤ z)
+    pub s6 : SFits w64 (a +ℤ y +ℤ z)
+    pub s7 : SFits w64 (a +ℤ x +ℤ y +ℤ z)
+
+  module _ (h : ∣ a ∣ ≤ 1099511627776) (s : Small 2199023255552 ws) where
+    sum-at : (m : ℕ) {v : ℤ} → v ≡ delta m → SFits w64 v
+    sum-at m e = rw e (fit (delta m) (omega (arith, delta-size a (three ws (pos 0)) h (small-three s) m)))
+
+    pub sums-fit : Fits
+    sums-fit = record {
+      a0 = sum-at 0 (sums .e0);
+      x0 = fit x (omega (arith, s .each 0));
+      y0 = fit y (omega (arith, s .each 1));
+      z0 = fit z (omega (arith, s .each 2));
+      s1 = sum-at 1 (sums .e1);
+      s2 = sum-at 2 (sums .e2);
+      s3 = sum-at 3 (sums .e3);
+      s4 = sum-at 4 (sums .e4);
+      s5 = sum-at 5 (sums .e5);
+      s6 = sum-at 6 (sums .e6);
+      s7 = sum-at 7 (sums .e7);
+    }
 
 -- ---- the choices
 module _ (f : ℕ → Bool) (m n : ℕ) (h : m < n) where
@@ -100,9 +141,6 @@ module _ (f : ℕ → Bool) (m n : ℕ) (h : m < n) where
 pub bits-end : (f : ℕ → Bool) (m n : ℕ) → n ≤ m → bitsFrom f m (n - m) ≡ 0
 unfolding bitsFrom
 bits-end f m n h = let d : n - m ≡ 0 = omega arith in rw d
-
-pub power-few : (m : ℕ) → m ≤ 8 → 2 ^ m ≤ 256
-power-few m h = pow-le-pow-right {n = 2} (omega arith) h
 
 -- ---- the update
 -- what a table's first four entries give, each difference of which fits

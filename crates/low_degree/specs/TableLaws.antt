@@ -5,22 +5,20 @@ use mathlib.Core.Bool.{Bool, true, false, cond}
 use mathlib.Core.List.{List, [], _∷_, _++_}
 use Prim.Native.Nat.{ℕ, zero, suc, _+_, _*_, _/_, _^_, _<_, _≤_}
 use native.Mathlib.Omega.{arith}
-use native.Mathlib.Nat.{pow-le-pow-right}
 use lib.ListN.{length, getD}
+use lib.Pow.{pow-mono}
 use lib.IntN.{ℤ, pos, _+ℤ_}
 use lib.Signed.{ltZ}
 use Rattle.whole.specs.Parts.{∣_∣}
-use Rattle.whole.specs.Ints.{ints}
-use Rattle.whole.specs.Cmp.{below0-abs}
 use Rattle.whole.specs.Words.{tab, odd, chosen, bitsFrom, oneIf, below0}
 use Rattle.whole.specs.Lists.{tab-at}
-use Rattle.rules.specs.Graph.{Graph, lin, edge, neighbours, row}
+use Rattle.rules.specs.Graph.{Graph, lin, edge, neighbours, degree, row}
 use Rattle.rules.specs.Eliminate.{delta, chooses, tee, stepOf}
 use Rattle.rules.specs.Record.{hold}
 use Rattle.rules.specs.Size.{Within}
 use Rattle.graph.specs.Near.{three, nearOf}
 use Rattle.graph.specs.NearLaws.{length-map, near-count, near-list, near-weights}
-use Rattle.accepted.specs.Small.{Small, map-at-most}
+use Rattle.accepted.specs.Small.{Small}
 use Rattle.graph.specs.Small.{small-near}
 use Rattle.graph.specs.declared.Near.{Near}
 use Rattle.low_degree.specs.Table.{deltasOf, teesOf, choicesOf, stepFrom}
@@ -52,22 +50,12 @@ unfolding bitsFrom
 bits-alike f h b zero e = refl
 bits-alike f h b (suc c) e = ap₂ (λ (t : Bool) r. oneIf t * 2 ^ b + r) (e b (omega arith)) (bits-alike f h (suc b) c (λ m l. e m (omega arith)))
 
--- the chosen weights of a list whose weights are small
-chosen-small : (ws : List ℤ) (m : ℕ) → ((k : ℕ) → ∣ getD ws k (pos 0) ∣ ≤ 2199023255552) → ∣ chosen ws m ∣ ≤ length ws * 2199023255552
-unfolding chosen
-chosen-small [] m h = omega arith
-chosen-small (w ∷ ws) m h = go (odd m) (chosen ws (m / 2)) (chosen-small ws (m / 2) (λ k. h (suc k)))
-  where
-    go : (t : Bool) (r : ℤ) → ∣ r ∣ ≤ length ws * 2199023255552 → ∣ cond t w (pos 0) +ℤ r ∣ ≤ suc (length ws) * 2199023255552
-    go true r k = let d = h 0 in simp ints (omega arith)
-    go false r k = simp ints (omega arith)
-
-pub few-masks : (d : ℕ) → d ≤ 3 → 2 ^ d ≤ 8
-few-masks d h = pow-le-pow-right {n = 2} (omega arith) h
-
 module _ (g : Graph) (i : ℕ) (near : Near) (is : near ≡ nearOf g i) (few : near .count ≤ 3) where
+  pub degree-few : degree g i ≤ 3
+  degree-few = omega (arith, near-count g i near is)
+
   row-few : length (row g i (neighbours g i)) ≤ 3
-  row-few = omega (arith, near-count g i near is, length-map (λ j. edge g i j) (neighbours g i))
+  row-few = omega (arith, degree-few, length-map (λ j. edge g i j) (neighbours g i))
 
   pub deltas-table : deltasOf (lin g i) (near .weights) ≡ tab (delta g i) 8
   unfolding deltasOf
@@ -86,16 +74,8 @@ module _ (g : Graph) (i : ℕ) (near : Near) (is : near ≡ nearOf g i) (few : n
   unfolding stepFrom stepOf
   step-table =
       let n = near-count g i near is in
-      let p : 2 ^ length (neighbours g i) ≤ 8 = few-masks (length (neighbours g i)) (omega arith) in
+      let p : 2 ^ length (neighbours g i) ≤ 8 = pow-mono {j = 3} degree-few in
       rw (n, near-list g i near is 0 (omega arith), near-list g i near is 1 (omega arith), near-list g i near is 2 (omega arith), choices-table (2 ^ length (neighbours g i)) p)
-
-  pub tee-small : Within g → (m : ℕ) → ∣ tee g i m ∣ ≤ 2 ^ 43
-  tee-small w m =
-      let s = chosen-small (row g i (neighbours g i)) m (λ k. map-at-most 2199023255552 (λ j. edge g i j) (neighbours g i) k (λ j. w .edges (64 * i + j))) in
-      let r = row-few in
-      let a = w .linear i in
-      let d : ∣ delta g i m ∣ ≤ 2 ^ 43 = simp ints (omega arith) in
-      omega (arith, below0-abs (delta g i m))
 
   -- what making the table asks
   pub table-asks : Within g → (∣ lin g i ∣ ≤ 1099511627776) × Small 2199023255552 (near .weights) × (near .count ≤ 3)

@@ -22,10 +22,10 @@ use Rattle.size_rule.specs.Values.{Narrow, TakenFrom}
 use Rattle.size_rule.specs.ValueLaws.{start-narrow, taken-narrow, narrow-within}
 
 -- "the reduced cost only takes values the original takes"
-pub sound-taken : {g g′ : Graph} {steps : List Step} → Sound g steps g′ → TakenFrom g g′
+sound-taken : {g g′ : Graph} {steps : List Step} → Sound g steps g′ → TakenFrom g g′
 sound-taken {steps = steps} s = record { plan = played steps; same = λ x. sym (s .exact x) }
 
-pub fine-within : (g : Graph) → Fine g → Narrow g → Within g
+fine-within : (g : Graph) → Fine g → Narrow g → Within g
 fine-within g f w = narrow-within g (f .shaped) w (f .neat) (λ i h. f .light i (refuse (active g i) (λ a. beyond i h (f .inside i a))))
   where
     beyond : (i : ℕ) → g .n ≤ i → i < g .n → ⊥
@@ -33,9 +33,6 @@ fine-within g f w = narrow-within g (f .shaped) w (f .neat) (λ i h. f .light i 
 
 -- of every objective that is not refused
 module _ (o : Objective) (fit : Fit o) where
-  pub start-within : Within (start o)
-  start-within = fine-within (start o) (start-stands o fit .fine) (start-narrow o fit)
-
   -- whatever is soundly reduced from it
   pub reduced-within : {steps : List Step} {g : Graph} → Sound (start o) steps g → Within g
   reduced-within {g = g} s = fine-within g (s .stands .fine) (taken-narrow (sound-taken s) (start-narrow o fit))

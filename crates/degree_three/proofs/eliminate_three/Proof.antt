@@ -1,14 +1,14 @@
-use Rattle.whole.specs.Parts.{∣_∣}
-use Rattle.degree_three.proofs.Absorbing.{moebius-table, entries-small, eliminated}
+use Rattle.degree_three.proofs.Absorbing.{moebius-table, eliminated}
 use Rattle.low_degree.proofs.Laws.{read}
 use Rattle.low_degree.specs.Table.{stepFrom}
-use Rattle.low_degree.specs.TableLaws.{table-asks, step-table, tee-small}
+use Rattle.low_degree.specs.TableLaws.{degree-few, table-asks, step-table}
 use Rattle.graph.proofs.Laws.{zero-is, zero-not}
 use Rattle.graph.specs.Held.{held}
 use Rattle.graph.specs.NearLaws.{near-below, near-inside}
-use Rattle.accepted.specs.Small.{Small, small-more, small-tab}
+use Rattle.accepted.specs.Small.{Small, small-more}
+use Rattle.size_rule.specs.SumSizes.{tees-three, entries-three}
 use Rattle.graph.specs.Small.{dropped-constant, dropped-linear, dropped-edges}
-use Rattle.rules.specs.Graph.{Graph}
+use Rattle.rules.specs.Graph.{Graph, degree}
 use Rattle.rules.specs.Eliminate.{delta, tee, stepOf}
 use Rattle.rules.specs.DegreeThree.{moebius, cubic, eliminate3}
 use Rattle.rules.specs.Record.{hold, noStep}
@@ -23,7 +23,7 @@ use mathlib.Core.Bool.{Bool, true, false, cond, not}
 use mathlib.Core.List.{List}
 use mathlib.Core.Path.{_≡_, sym, ap, _∙_, subst}
 use native.Mathlib.Omega.{arith}
-use Prim.Native.Nat.{ℕ, _≤_, _^_}
+use Prim.Native.Nat.{_≤_, _^_}
 use borrow.Author.Needs.{needs}
 use Rattle.degree_three.proofs.eliminate_three.Statement.{statement}
 use Rattle.degree_three.proofs.eliminate_three.Tie as tie
@@ -47,14 +47,14 @@ table-of-requires c κs =
 table : (c : tie.After-table-of) → (c .table-of .result .deltas ≡ tab (delta (before (c .before .before)) (c .before .before .args .i)) 8) × (c .table-of .result .tees ≡ tab (tee (before (c .before .before)) (c .before .before .args .i)) 8)
 table c = let s = c .before .before in c .table-of .ensures (before s) (s .args .i) (weight s) (s .pre .3)
 
-small : (s : tie.Start) (m : ℕ) → ∣ tee (before s) (s .args .i) m ∣ ≤ 2 ^ 43
-small s m = tee-small (before s) (s .args .i) (s .args .near) (s .pre .3) (few s) (s .pre .2) m
+three : (s : tie.Start) → degree (before s) (s .args .i) ≤ 3
+three s = degree-few (before s) (s .args .i) (s .args .near) (s .pre .3) (few s)
 
 moebius-requires : tie.Need-moebius-requires
 moebius-requires c κs =
     let t = c .before .before in
     let s = t .before .before in
-    subst (Small (2 ^ 50)) (sym (table t .1)) (small-more (2 ^ 50) (small-tab (tee (before s) (s .args .i)) 8 (small s)) (omega arith))
+    subst (Small (2 ^ 50)) (sym (table t .1)) (small-more (2 ^ 50) (tees-three (before s) (s .pre .2) (s .args .i) (three s)) (omega arith))
 
 abbrev start : tie.After-moebius → tie.Start
 start c = c .before .before .before .before .before
@@ -88,7 +88,7 @@ absorb-three-requires c κs =
       omega (arith, dropped-constant 3 (a .i) g after (d .ensures .0) (s .pre .2)),
       small-more (2 ^ 50) (dropped-linear 3 (a .i) g after (d .ensures .0) (s .pre .2)) (omega arith),
       small-more (2 ^ 50) (dropped-edges 3 (a .i) g after (d .ensures .0) (s .pre .2)) (omega arith),
-      subst (Small (2 ^ 54)) (sym (entries-are m)) (small-more (2 ^ 54) (entries-small (tee g (a .i)) (small s)) (omega arith)),
+      subst (Small (2 ^ 54)) (sym (entries-are m)) (small-more (2 ^ 54) (entries-three g (s .pre .2) (a .i) (three s)) (omega arith)),
     )
 
 returns-2 : tie.Need-returns-2

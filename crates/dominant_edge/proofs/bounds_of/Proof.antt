@@ -1,14 +1,17 @@
 use Rattle.whole.specs.Parts.{∣_∣}
-use Rattle.dominant_edge.proofs.Taking.{turns, low, left-fits, one-more}
+use Rattle.dominant_edge.proofs.Taking.{low, left-fits}
 use Rattle.dominant_edge.proofs.Finding.{edgesTo, negatives-turn, positives-turn, negatives-end, positives-end, sum-next, sum-end, Turn, made}
 use Rattle.rules.specs.DominantEdge.{negatives, positives}
 use Rattle.rules.specs.Graph.{lin, neighbours}
 use Rattle.whole.specs.Ints.{rd}
 use Rattle.whole.specs.Words.{below0, above0}
-use Rattle.whole.specs.Masks.{these, rest-less}
+use Rattle.whole.specs.Masks.{these, these-apart, rest-less}
+use Rattle.whole.specs.Pigeon.{pigeon}
+use Rattle.accepted.specs.Small.{Small, small-map}
+use Rattle.size_rule.specs.Sizes.{lo-size, hi-size}
 use lib.Count.{trailingZeros}
 use lib.IntN.{ℤ, pos, _+ℤ_}
-use lib.ListN.{getD}
+use lib.ListN.{length, getD, length-map}
 use mir.Syntax.{w64}
 use mir.Val.{toZ, ofZ}
 use denote.Ref.{now}
@@ -22,7 +25,7 @@ use Rattle.dominant_edge.proofs.bounds_of.Tie as tie
 
 abbrev Inv-loop : tie.InvT-loop
 Inv-loop edges a m i lo₀ hi₀ rest₀ lo hi rest =
-    (rest < 2 ^ 64) × (∣ toZ w64 lo ∣ ≤ 1099511627776 + turns rest * 2199023255552) × (∣ toZ w64 hi ∣ ≤ 1099511627776 + turns rest * 2199023255552)
+    (rest < 2 ^ 64)
     × (toZ w64 lo +ℤ negatives (edgesTo edges i (these rest)) ≡ toZ w64 a +ℤ negatives (edgesTo edges i (these m)))
     × (toZ w64 hi +ℤ positives (edgesTo edges i (these rest)) ≡ toZ w64 a +ℤ positives (edgesTo edges i (these m)))
 
@@ -30,9 +33,27 @@ abbrev μ-loop : tie.MeasureT-loop
 μ-loop edges a m i lo₀ hi₀ rest₀ lo hi rest = rest
 
 loop-holds : tie.Need-loop-holds Inv-loop μ-loop
-loop-holds c =
-    let h : ∣ toZ w64 (ofZ w64 (c .args .a)) ∣ ≤ 1099511627776 = rw (rd (c .fits .a)) (c .pre .1) in
-    (omega arith, omega arith, omega arith, refl, refl)
+loop-holds c = (omega arith, refl, refl)
+
+-- the sums so far, from the whole and what is left
+module _ (s : tie.Start Inv-loop μ-loop) (rest : ℕ) (x : ℤ) where
+  abbrev among : ℕ → List ℤ
+  among m = edgesTo (now (s .args .edges)) (s .args .i) (these m)
+
+  each : (m : ℕ) → Small 2199023255552 (among m)
+  each m = small-map (λ j. getD (now (s .args .edges)) (64 * s .args .i + j) (pos 0)) (these m) (λ j. s .pre .2 .each (64 * s .args .i + j))
+
+  few : (m : ℕ) → length (among m) ≤ 64
+  few m = omega (arith, length-map (these m) (λ j. getD (now (s .args .edges)) (64 * s .args .i + j) (pos 0)), pigeon 64 (these-apart m))
+
+  weight-small : ∣ toZ w64 (ofZ w64 (s .args .a)) ∣ ≤ 1099511627776
+  weight-small = rw (rd (s .fits .a)) (s .pre .1)
+
+  lo-small : x +ℤ negatives (among rest) ≡ toZ w64 (ofZ w64 (s .args .a)) +ℤ negatives (among (s .args .m)) → ∣ x ∣ ≤ 2 ^ 50
+  lo-small e = omega (arith, lo-size (toZ w64 (ofZ w64 (s .args .a))) (among (s .args .m)) weight-small (each (s .args .m)) (among rest) x (each rest) (few (s .args .m)) (few rest) e)
+
+  hi-small : x +ℤ positives (among rest) ≡ toZ w64 (ofZ w64 (s .args .a)) +ℤ positives (among (s .args .m)) → ∣ x ∣ ≤ 2 ^ 50
+  hi-small e = omega (arith, hi-size (toZ w64 (ofZ w64 (s .args .a))) (among (s .args .m)) weight-small (each (s .args .m)) (among rest) x (each rest) (few (s .args .m)) (few rest) e)
 
 low-in : (c : tie.In-loop Inv-loop μ-loop) → trailingZeros 64 (c .before .loop .rest) < 64
 low-in c = low (c .before .loop .rest) (c .loop-test .taken) (c .before .loop .inv .0)
@@ -48,22 +69,16 @@ module _ (c : tie.After-smaller Inv-loop μ-loop) where
   abbrev weight : ℤ
   weight = getD (now (start .args .edges)) (64 * start .args .i + trailingZeros 64 rest) (pos 0)
 
-  abbrev bound : ℕ
-  bound = 1099511627776 + turns rest * 2199023255552
-
   abbrev l : ℤ
   l = toZ w64 (c .before .before .before .loop .lo)
 
   abbrev h : ℤ
   h = toZ w64 (c .before .before .before .loop .hi)
 
-  in-bound : bound ≤ 2 ^ 50
-  in-bound = omega arith
-
-  abbrev turn : Turn l h weight (c .smaller .result) bound
+  abbrev turn : Turn l h weight (c .smaller .result)
   turn =
       let v = c .before .before .before .loop .inv in
-      made l h weight (c .smaller .result) bound (v .1) (v .2) (start .pre .2 .each (64 * start .args .i + trailingZeros 64 rest)) in-bound (c .smaller .ensures)
+      made l h weight (c .smaller .result) (lo-small start rest l (v .1)) (hi-small start rest h (v .2)) (start .pre .2 .each (64 * start .args .i + trailingZeros 64 rest)) (c .smaller .ensures)
 
 sub-above : tie.Need-sub-above Inv-loop μ-loop
 sub-above c = turn c .above-fits
@@ -83,13 +98,10 @@ loop-again c =
     let d = c .before .before .loop-test .taken in
     let e = now (start c .args .edges) in
     let i = start c .args .i in
-    let t = turn c in
-    let one = one-more (rest c) d (v .0) in (
+    let t = turn c in (
       left-fits (rest c) d (v .0),
-      omega (arith, t .lo-small),
-      omega (arith, t .hi-small),
-      sum-next (l c) _ (below0 (weight c)) _ _ _ (t .lo-next) (negatives-turn e i (rest c) d (v .0)) (v .3),
-      sum-next (h c) _ (above0 (weight c)) _ _ _ (t .hi-next) (positives-turn e i (rest c) d (v .0)) (v .4),
+      sum-next (l c) _ (below0 (weight c)) _ _ _ (t .lo-next) (negatives-turn e i (rest c) d (v .0)) (v .1),
+      sum-next (h c) _ (above0 (weight c)) _ _ _ (t .hi-next) (positives-turn e i (rest c) d (v .0)) (v .2),
     )
 
 returns : tie.Need-returns Inv-loop μ-loop
@@ -103,11 +115,11 @@ returns c =
       λ g seen.
           let r : toZ w64 (ofZ w64 (a .a)) ≡ lin g (a .i) = rd (s .fits .a) ∙ sym (seen .weight) in
           let same : edgesTo e (a .i) (these (a .m)) ≡ edgesTo (g .edges) (a .i) (neighbours g (a .i)) = ap₂ (λ (x : List ℤ) (js : List ℕ). edgesTo x (a .i) js) (sym (seen .edges)) (seen .around) in (
-            sum-end (toZ w64 (c .before .loop .lo)) (negatives (edgesTo e (a .i) (these rest))) _ (negatives-end e (a .i) rest z) (v .3 ∙ ap₂ (λ (x : ℤ) (ws : List ℤ). x +ℤ negatives ws) r same),
-            sum-end (toZ w64 (c .before .loop .hi)) (positives (edgesTo e (a .i) (these rest))) _ (positives-end e (a .i) rest z) (v .4 ∙ ap₂ (λ (x : ℤ) (ws : List ℤ). x +ℤ positives ws) r same),
+            sum-end (toZ w64 (c .before .loop .lo)) (negatives (edgesTo e (a .i) (these rest))) _ (negatives-end e (a .i) rest z) (v .1 ∙ ap₂ (λ (x : ℤ) (ws : List ℤ). x +ℤ negatives ws) r same),
+            sum-end (toZ w64 (c .before .loop .hi)) (positives (edgesTo e (a .i) (these rest))) _ (positives-end e (a .i) rest z) (v .2 ∙ ap₂ (λ (x : ℤ) (ws : List ℤ). x +ℤ positives ws) r same),
           ),
-      omega arith,
-      omega arith,
+      lo-small s rest (toZ w64 (c .before .loop .lo)) (v .1),
+      hi-small s rest (toZ w64 (c .before .loop .hi)) (v .2),
     )
 
 pub bounds-of-spec : {M : Type 1} → statement M

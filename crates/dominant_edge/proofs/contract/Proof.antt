@@ -1,5 +1,5 @@
 use Rattle.whole.specs.Parts.{∣_∣}
-use Rattle.dominant_edge.proofs.Giving.{minus, minus-fits, minus-at-most, mask-inside, row-small, row-gone, by-turning, by-moving, step-by}
+use Rattle.dominant_edge.proofs.Giving.{minus, minus-fits, mask-inside, row-small, row-gone, by-turning, by-moving, step-by}
 use Rattle.dominant_edge.specs.Answer.{Gone}
 use Rattle.low_degree.proofs.Laws.{read, sum-fits, gain-fits}
 use Rattle.rules.specs.Graph.{Graph, lin, edge}
@@ -7,7 +7,7 @@ use Rattle.rules.specs.DominantEdge.{positive}
 use Rattle.graph.specs.Held.{held}
 use Rattle.accepted.specs.Small.{Small, small-more, small-gain}
 use Rattle.graph.specs.Small.{dropped-constant, dropped-linear, dropped-edges}
-use Rattle.whole.specs.Ints.{ints}
+use Rattle.size_rule.specs.Sizes.{add-size, neg-size}
 use lib.IntN.{ℤ, negℤ, _+ℤ_}
 use mathlib.Core.List.{List}
 use mir.Syntax.{w64}
@@ -85,14 +85,14 @@ add-linear-requires c κs =
     let d = c .before .before .before in
     let s = start d in
     rw (minus (a s) (omega (arith, a-small s)))
-    (omega arith, gain-fits (s .args .j) (negℤ (a s)) (linear-small d) (omega arith) (omega (arith, minus-at-most (a s) (a-small s))))
+    (omega arith, gain-fits (s .args .j) (negℤ (a s)) (linear-small d) (omega arith) (omega (arith, neg-size (a s) (a-small s))))
 
 turn-edges-requires : tie.Need-turn-edges-requires
 turn-edges-requires c κs =
     let d = c .before .before .before .before .before .before .before .before in
     let s = start d in
     let e = rw (minus (a s) (omega (arith, a-small s))) at (c .before .before .before .before .add-linear .ensures) in
-    (omega arith, row-is-small d, subst (Small (2 ^ 50)) (sym e) (small-more (2 ^ 50) (small-gain (s .args .j) (negℤ (a s)) (linear-small d) (minus-at-most (a s) (a-small s))) (omega arith)), edges-small d)
+    (omega arith, row-is-small d, subst (Small (2 ^ 50)) (sym e) (small-more (2 ^ 50) (small-gain (s .args .j) (negℤ (a s)) (linear-small d) (neg-size (a s) (a-small s))) (omega arith)), edges-small d)
 
 returns : tie.Need-returns
 returns c =
@@ -110,11 +110,8 @@ returns c =
     )
 
 -- the sum that j gains where it takes the decision's part
-sum-small : (s : tie.Start) → ∣ a s +ℤ w s ∣ ≤ 2 ^ 43
-sum-small s = plus (a s) (w s) (a-small s) (w-small s)
-  where
-    plus : (x y : ℤ) → ∣ x ∣ ≤ 1099511627776 → ∣ y ∣ ≤ 2199023255552 → ∣ x +ℤ y ∣ ≤ 2 ^ 43
-    plus x y h k = simp ints (omega arith)
+sum-small : (s : tie.Start) → ∣ a s +ℤ w s ∣ ≤ 3298534883328
+sum-small s = add-size (a s) (w s) (a-small s) (w-small s)
 
 add-add-linear : tie.Need-add-add-linear
 add-add-linear c =

@@ -45,7 +45,7 @@ loop-again c =
     (λ y.
     let e = rw (weight-read k d) at (y .3 .ensures .0) in
     rw (y .4, y .5) (
-      keeps-gain k d (weight k d) (y .3 .last .0) (y .3 .last .1 .0) (weight-small k d) e (y .3 .ensures .1),
+      keeps-gain k d (weight k d) (y .3 .last .0) (y .3 .last .1 .0) e (y .3 .ensures .1),
       λ old i gone n b x ss.
           l .inv .1 old i gone n b x ss
           ∙ gives k d gone (move old i j) (addEdge j) (move-cons old i j) (graph n b x (l .edges) ss) _ (y .0 .taken) (edge-gain n b x (l .edges) ss (weight k d) (y .3 .last .0) j (at k d) e),

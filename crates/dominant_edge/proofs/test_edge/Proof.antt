@@ -1,6 +1,9 @@
 use Rattle.dominant_edge.specs.Answer.{verdictOf, testOf}
 use Rattle.dominant_edge.specs.declared.Test.{Test}
-use Rattle.whole.specs.Ints.{ints, zarith, rd}
+use Rattle.whole.specs.Ints.{rd}
+use Rattle.low_degree.proofs.Laws.{fit}
+use Rattle.size_rule.specs.Sizes.{add-size, sub-size}
+use native.Mathlib.Omega.{arith}
 use lib.IntN.{ℤ, pos, _+ℤ_, _-ℤ_}
 use lib.Signed.{ltZ}
 use mathlib.Core.Bool.{Bool, true, false, cond}
@@ -10,16 +13,24 @@ use Rattle.dominant_edge.proofs.test_edge.Statement.{statement}
 use Rattle.dominant_edge.proofs.test_edge.Tie as tie
 
 sub-verdict : tie.Need-sub-verdict
-sub-verdict c = let s = c .before in rw (rd (s .fits .hi), rd (s .fits .w)) (simp ints (omega zarith))
+sub-verdict c =
+    let s = c .before in
+    rw (rd (s .fits .hi), rd (s .fits .w)) (fit (s .args .hi -ℤ s .args .w) (omega (arith, sub-size (s .args .hi) (s .args .w) (s .pre .1) (s .pre .2))))
 
 add-verdict : tie.Need-add-verdict
-add-verdict c = let s = c .before in rw (rd (s .fits .lo), rd (s .fits .w)) (simp ints (omega zarith))
+add-verdict c =
+    let s = c .before in
+    rw (rd (s .fits .lo), rd (s .fits .w)) (fit (s .args .lo +ℤ s .args .w) (omega (arith, add-size (s .args .lo) (s .args .w) (s .pre .0) (s .pre .2))))
 
 add-verdict-2 : tie.Need-add-verdict-2
-add-verdict-2 c = let s = c .before in rw (rd (s .fits .hi), rd (s .fits .w)) (simp ints (omega zarith))
+add-verdict-2 c =
+    let s = c .before in
+    rw (rd (s .fits .hi), rd (s .fits .w)) (fit (s .args .hi +ℤ s .args .w) (omega (arith, add-size (s .args .hi) (s .args .w) (s .pre .1) (s .pre .2))))
 
 sub-verdict-2 : tie.Need-sub-verdict-2
-sub-verdict-2 c = let s = c .before in rw (rd (s .fits .lo), rd (s .fits .w)) (simp ints (omega zarith))
+sub-verdict-2 c =
+    let s = c .before in
+    rw (rd (s .fits .lo), rd (s .fits .w)) (fit (s .args .lo -ℤ s .args .w) (omega (arith, sub-size (s .args .lo) (s .args .w) (s .pre .0) (s .pre .2))))
 
 -- the arm that the edge's sign takes
 arm : (t : Bool) (lo hi w : ℤ) (r : Test) → ltZ (pos 0) w ≡ t → r ≡ cond t (verdictOf (hi -ℤ w) (lo +ℤ w)) (verdictOf (hi +ℤ w) (lo -ℤ w)) → r ≡ testOf lo hi w

@@ -1,17 +1,20 @@
 use Rattle.dominant_edge.specs.Answer.{Gone}
 use Rattle.dominant_edge.proofs.Taking.{ended}
-use Rattle.dominant_edge.proofs.Giving.{turned-by, turn-cons, turn-none, limit, Keeps, keeps-begin, keeps-same, keeps-gain, at, left, weight, at-low, weight-small, weight-read, in-limit, more, edge-fits, gives, passes-by, minus, minus-fits, minus-at-most}
+use Rattle.dominant_edge.proofs.Giving.{turned-by, turn-cons, turn-none, gain-fits-once, Keeps, keeps-begin, keeps-same, keeps-gain, at, weight, at-low, at-in, still, other, weight-small, weight-read, edge-fits, gives, passes-by, minus, minus-fits}
 use Rattle.whole.specs.Masks.{these, rest-less}
 use Rattle.rules.specs.DominantEdge.{turn}
 use Rattle.rules.specs.Graph.{Graph, graph, addEdge}
 use Rattle.graph.specs.HeldLaws.{linear-gain, edge-gain}
-use Rattle.accepted.specs.Small.{Small, small-more, small-gain}
-use Rattle.low_degree.proofs.Laws.{gain-fits}
-use lib.IntN.{ℤ, negℤ}
+use Rattle.size_rule.specs.Sizes.{neg-size}
+use Rattle.whole.specs.Words.{mem}
+use lib.IntN.{ℤ, pos, negℤ}
+use lib.ListN.{getD}
+use lib.Seq.{getD-set-other}
 use denote.Ref.{now}
+use mathlib.Core.Bool.{true}
 use mathlib.Core.List.{List}
 use mathlib.Core.Logic.{⊎-elim}
-use mathlib.Core.Path.{_≡_, refl, sym, ap, _∙_, subst}
+use mathlib.Core.Path.{_≡_, refl, sym, ap, _∙_}
 use native.Mathlib.Omega.{arith}
 use Prim.Native.Nat.{ℕ}
 use Rattle.dominant_edge.proofs.turn_edges.Statement.{statement}
@@ -19,7 +22,7 @@ use Rattle.dominant_edge.proofs.turn_edges.Tie as tie
 
 abbrev Inv-loop : tie.InvT-loop
 Inv-loop lin₀ edges₀ masks₀ row m j rest₀ lin edges masks rest =
-    Keeps row m j rest edges₀ masks₀ edges masks × Small (limit rest) lin
+    Keeps row m j rest edges₀ masks₀ edges masks × ((t : ℕ) → mem t (these rest) ≡ true → getD lin t (pos 0) ≡ getD lin₀ t (pos 0))
     × ((old : Graph) (i : ℕ) → Gone row m old i → (n : ℕ) (b : ℤ) (ss : List ℕ) → turn old i j (these m) (graph n b lin₀ edges₀ ss) ≡ turn old i j (these rest) (graph n b lin edges ss))
 
 abbrev μ-loop : tie.MeasureT-loop
@@ -28,14 +31,14 @@ abbrev μ-loop : tie.MeasureT-loop
 loop-holds : tie.Need-loop-holds Inv-loop μ-loop
 loop-holds c =
     let a = c .args in
-    (keeps-begin (a .m) (now (a .edges)) (now (a .masks)) (c .pre .0) (c .pre .1) (omega arith) (c .pre .3), small-more (limit (a .m)) (c .pre .2) (omega arith), λ old i gone n b ss. refl)
+    (keeps-begin (a .m) (now (a .edges)) (now (a .masks)) (c .pre .0) (c .pre .1) (omega arith) (c .pre .3), λ t q. refl, λ old i gone n b ss. refl)
 
 add-linear-requires : tie.Need-add-linear-requires Inv-loop μ-loop
 add-linear-requires c κs =
     let l = c .before .before .before .before .loop in
     let k = l .inv .0 in
     let d = c .before .before .before .loop-test .taken in
-    rw (weight-read k d) (at-low k d, gain-fits (at k d) (weight k d) (l .inv .1) (in-limit k d) (omega (arith, weight-small k d)))
+    rw (weight-read k d) (at-low k d, gain-fits-once (l .lin) (at k d) (weight k d) (c .before .before .before .before .before .pre .2) (l .inv .1 (at k d) (at-in k d)) (weight-small k d))
 
 sub-add-edge : tie.Need-sub-add-edge Inv-loop μ-loop
 sub-add-edge c =
@@ -49,7 +52,7 @@ add-edge-requires c κs =
     let k = t .before .loop .inv .0 in
     let d = t .loop-test .taken in
     let h = weight-small k d in
-    rw (minus (weight k d) (omega arith)) (edge-fits k d (negℤ (weight k d)) (minus-at-most (weight k d) h))
+    rw (minus (weight k d) (omega arith)) (edge-fits k d (negℤ (weight k d)) (neg-size (weight k d) h))
 
 loop-again : tie.Need-loop-again Inv-loop μ-loop
 loop-again c =
@@ -59,14 +62,13 @@ loop-again c =
     let d = c .before .before .loop-test .taken in
     let w = weight k d in
     let h = weight-small k d in
-    let less = limit (left k d) in
     ⊎-elim
     (λ y.
     let f = rw (weight-read k d) at (y .2 .ensures) in
     let e = rw (minus w (omega arith)) at (y .5 .ensures .0) in
     rw (y .6, y .7, y .8) (
-      keeps-gain k d (negℤ w) (y .5 .last .0) (y .5 .last .1 .0) (minus-at-most w h) e (y .5 .ensures .1),
-      subst (Small less) (sym f) (small-more less (small-gain (at k d) w (l .inv .1) h) (more k d)),
+      keeps-gain k d (negℤ w) (y .5 .last .0) (y .5 .last .1 .0) e (y .5 .ensures .1),
+      λ t q. ap (λ (x : List ℤ). getD x t (pos 0)) f ∙ getD-set-other (l .lin) (at k d) t _ (pos 0) (other k d t q) ∙ l .inv .1 t (still k d t q),
       λ old i gone n b ss.
           l .inv .2 old i gone n b ss
           ∙ gives k d gone (turn old i j) (turned-by j) (turn-cons old i j) (graph n b (l .lin) (l .edges) ss) _ (y .0 .taken)
@@ -74,7 +76,7 @@ loop-again c =
     ))
     (λ y. rw (y .1, y .2, y .3) (
       keeps-same k d,
-      small-more less (l .inv .1) (omega (arith, more k d)),
+      λ t q. l .inv .1 t (still k d t q),
       λ old i gone n b ss. l .inv .2 old i gone n b ss ∙ passes-by k d gone (turn old i j) (turned-by j) (turn-cons old i j) (graph n b (l .lin) (l .edges) ss) (y .0 .left),
     ))
     (c .if1 .came)

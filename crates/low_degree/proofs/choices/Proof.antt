@@ -1,4 +1,4 @@
-use Rattle.low_degree.proofs.Laws.{bits-more, bits-same, bits-end, power-few}
+use Rattle.low_degree.proofs.Laws.{bits-more, bits-same, bits-end}
 use Rattle.low_degree.specs.Table.{choicesOf}
 use Rattle.whole.specs.Words.{bitsFrom}
 use Rattle.whole.specs.Ints.{rd}
@@ -8,6 +8,7 @@ use mir.Syntax.{w64}
 use lib.IntN.{ℤ, pos}
 use lib.Signed.{ltZ}
 use lib.ListN.{getD}
+use lib.Pow.{pow-mono}
 use mathlib.Core.Bool.{Bool}
 use mathlib.Core.Logic.{⊎-elim}
 use mathlib.Core.Path.{_≡_, refl, sym, ap, _∙_}
@@ -39,7 +40,7 @@ loop-again c =
     let fits : SFits w64 (getD (s .args .t1) (l .m) (pos 0)) = sfits-of (c .before .before .d .given) in
     let twice : 2 ^ (l .m + 1) ≡ 2 ^ l .m + 2 ^ l .m = ap (λ (k : ℕ). 2 ^ k) (add-one (l .m)) ∙ two-pow-succ (l .m) in
     let test : c .before .chooses .result ≡ f (l .m) = c .before .chooses .ensures ∙ ap (λ (z : ℤ). ltZ z (pos 0)) (rd fits) in
-    let few : 2 ^ (l .m + 1) ≤ 256 = power-few (l .m + 1) (omega arith) in
+    let few : 2 ^ (l .m + 1) ≤ 256 = pow-mono {i = l .m + 1} {j = 8} (omega arith) in
     ⊎-elim
     (λ w. omega (arith, bits-more f (l .m) n lt (sym test ∙ w .0 .taken)))
     (λ w. omega (arith, bits-same f (l .m) n lt (sym test ∙ w .0 .left)))

@@ -1,16 +1,11 @@
-use Rattle.low_degree.proofs.Laws.{Sums, sums, deltas-are}
+use Rattle.low_degree.proofs.Laws.{Fits, sums-fit, deltas-are}
 use Rattle.whole.specs.Ints.{rd}
-use lib.IntN.{pos}
-use lib.ListN.{getD}
 use borrow.Author.Needs.{needs}
 use Rattle.low_degree.proofs.deltas.Statement.{statement}
 use Rattle.low_degree.proofs.deltas.Tie as tie
 
-made : (c : tie.Start) → Sums (c .args .a) (getD (c .args .near .weights) 0 (pos 0)) (getD (c .args .near .weights) 1 (pos 0)) (getD (c .args .near .weights) 2 (pos 0))
-made c =
-    let w = c .pre .1 in
-    let l = c .args .near .weights in
-    sums (c .args .a) (getD l 0 (pos 0)) (getD l 1 (pos 0)) (getD l 2 (pos 0)) (c .pre .0) (w .each 0) (w .each 1) (w .each 2)
+made : (c : tie.Start) → Fits (c .args .a) (c .args .near .weights)
+made c = sums-fit (c .args .a) (c .args .near .weights) (c .pre .0) (c .pre .1)
 
 add-d1 : tie.Need-add-d1
 add-d1 c = let m = made (c .before .before) in rw (rd (m .a0), rd (m .x0)) (m .s1)

@@ -1,9 +1,10 @@
 use Rattle.low_degree.proofs.Laws.{read, eliminated}
 use Rattle.low_degree.specs.Table.{stepFrom}
-use Rattle.low_degree.specs.TableLaws.{table-asks, step-table, tee-small}
+use Rattle.low_degree.specs.TableLaws.{degree-few, table-asks, step-table}
 use Rattle.graph.specs.Held.{held}
 use Rattle.graph.specs.NearLaws.{near-below, near-inside}
-use Rattle.accepted.specs.Small.{Small, small-more, small-tab}
+use Rattle.accepted.specs.Small.{Small, small-more}
+use Rattle.size_rule.specs.SumSizes.{tees-three}
 use Rattle.graph.specs.Small.{dropped-constant, dropped-linear, dropped-edges}
 use Rattle.rules.specs.Graph.{Graph}
 use Rattle.rules.specs.Eliminate.{delta, tee}
@@ -64,7 +65,7 @@ absorb-requires c κs =
       omega (arith, dropped-constant 3 (a .i) g after (d .ensures .0) (s .pre .2)),
       small-more (2 ^ 50) (dropped-linear 3 (a .i) g after (d .ensures .0) (s .pre .2)) (omega arith),
       small-more (2 ^ 50) (dropped-edges 3 (a .i) g after (d .ensures .0) (s .pre .2)) (omega arith),
-      subst (Small (2 ^ 50)) (sym (table t .1)) (small-more (2 ^ 50) (small-tab (tee g (a .i)) 8 (tee-small g (a .i) (a .near) (s .pre .3) (few s) (s .pre .2))) (omega arith)),
+      subst (Small (2 ^ 50)) (sym (table t .1)) (small-more (2 ^ 50) (tees-three g (s .pre .2) (a .i) (degree-few g (a .i) (a .near) (s .pre .3) (few s))) (omega arith)),
     )
 
 returns : tie.Need-returns

@@ -1,5 +1,5 @@
 use Rattle.low_degree.specs.Table.{stepFrom, choicesOf}
-use Rattle.low_degree.specs.TableLaws.{few-masks}
+use lib.Pow.{pow-mono}
 use mathlib.Core.Path.{ap, _∙_}
 use native.Mathlib.Omega.{arith}
 use borrow.Author.Needs.{needs}
@@ -8,8 +8,7 @@ use Rattle.low_degree.proofs.step_of.Tie as tie
 
 choices-requires : tie.Need-choices-requires
 choices-requires c κs =
-    let d = c .before .before .args .near .count in
-    omega (arith, c .masks .ensures, few-masks d (omega arith))
+    omega (arith, c .masks .ensures, pow-mono {j = 3} (c .before .before .pre .1))
 
 returns : tie.Need-returns
 unfolding stepFrom
