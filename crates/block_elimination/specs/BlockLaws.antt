@@ -10,7 +10,7 @@ use lib.IntN.{ℤ, pos}
 use Rattle.whole.specs.Parts.{∣_∣}
 use Rattle.whole.specs.Words.{bit, bitsFrom, tab}
 use Rattle.whole.specs.Masks.{bit-none}
-use Rattle.whole.specs.Lists.{fill-step}
+use Rattle.whole.specs.Lists.{fill-step, tab-same, replicate-at}
 use Rattle.rules.specs.declared.Step.{Step}
 use Rattle.rules.specs.Graph.{Graph, dropTo}
 use Rattle.rules.specs.Eliminate as rule
@@ -22,15 +22,6 @@ use Rattle.graph.specs.Small.{dropped-constant, dropped-linear, dropped-edges}
 use Rattle.block_minima.specs.Weights.{weights, weights-inner, Minimum}
 use Rattle.block_elimination.specs.Block.{Lowest, pairOf, memberStep}
 
-pub fillings : (w : ℕ) → w ≤ 2 → 2 ^ w ≤ 4
-fillings zero h = omega arith
-fillings (suc zero) h = omega arith
-fillings (suc (suc zero)) h = omega arith
-fillings (suc (suc (suc w))) h = absurd (over h)
-  where
-    over : suc (suc (suc w)) ≤ 2 → ⊥
-    over h = omega arith
-
 -- ---- a step as a record holds it
 pub held-step : (i c d f s t : ℕ) (near : List ℕ) → d ≡ length near → f ≡ getD near 0 0 → s ≡ getD near 1 0 → t ≡ getD near 2 0
     → _≡_ {A = Step} (record { decision = i; degree = d; first = f; second = s; third = t; choices = c }) (hold (rule.step i near c))
@@ -41,19 +32,13 @@ pub pair-whole : (xs : List ℕ) → length xs ≤ 2 → pairOf (getD xs 0 0) (g
 pair-whole [] h = refl
 pair-whole (x ∷ []) h = refl
 pair-whole (x ∷ y ∷ []) h = refl
-pair-whole (x ∷ y ∷ z ∷ xs) h = absurd (over h)
-  where
-    over : length (x ∷ y ∷ z ∷ xs) ≤ 2 → ⊥
-    over h = omega arith
+pair-whole (x ∷ y ∷ z ∷ xs) h = absurd (omega arith)
 
 pub pair-length : (a b w : ℕ) → w ≤ 2 → length (pairOf a b w) ≡ w
 pair-length a b zero h = refl
 pair-length a b (suc zero) h = refl
 pair-length a b (suc (suc zero)) h = refl
-pair-length a b (suc (suc (suc w))) h = absurd (over h)
-  where
-    over : suc (suc (suc w)) ≤ 2 → ⊥
-    over h = omega arith
+pair-length a b (suc (suc (suc w))) h = absurd (omega arith)
 
 pub pair-third : (a b w : ℕ) → getD (pairOf a b w) 2 0 ≡ 0
 pair-third a b zero = refl
@@ -71,10 +56,7 @@ unfolding tab bitsFrom
 choices-are best masks zero k h e = rw (e, bit-none k) (omega arith)
 choices-are best masks (suc zero) k h e = rw (e, bit-none k) (omega arith)
 choices-are best masks (suc (suc zero)) k h e = rw e
-choices-are best masks (suc (suc (suc w))) k h e = absurd (over h)
-  where
-    over : suc (suc (suc w)) ≤ 2 → ⊥
-    over h = omega arith
+choices-are best masks (suc (suc (suc w))) k h e = absurd (omega arith)
 
 -- ---- absorbing looks at the masks of its neighbours only
 pub absorb-same : (t u : ℕ → ℤ) (ns : List ℕ) (g : Graph) → length ns ≤ 2 → ((m : ℕ) → m < 2 ^ length ns → t m ≡ u m) → rule.absorb t ns g ≡ rule.absorb u ns g
@@ -82,21 +64,13 @@ unfolding rule.absorb
 absorb-same t u [] g l h = rw (h 0 (omega arith))
 absorb-same t u (j ∷ []) g l h = rw (h 0 (omega arith), h 1 (omega arith))
 absorb-same t u (j ∷ k ∷ []) g l h = rw (h 0 (omega arith), h 1 (omega arith), h 2 (omega arith), h 3 (omega arith))
-absorb-same t u (j ∷ k ∷ i ∷ ns) g l h = absurd (over l)
-  where
-    over : length (j ∷ k ∷ i ∷ ns) ≤ 2 → ⊥
-    over l = omega arith
+absorb-same t u (j ∷ k ∷ i ∷ ns) g l h = absurd (omega arith)
 
 -- ---- a list by its places
 tab-front : {A : Type 0} (f : ℕ → A) (n : ℕ) → tab f (suc n) ≡ f 0 ∷ tab (λ k. f (suc k)) n
 unfolding tab
 tab-front f zero = refl
 tab-front {A} f (suc n) = ap (λ (t : List A). t ++ f (suc n) ∷ []) (tab-front f n)
-
-tab-same : {A : Type 0} (f g : ℕ → A) (n : ℕ) → ((k : ℕ) → k < n → f k ≡ g k) → tab f n ≡ tab g n
-unfolding tab
-tab-same f g zero h = refl
-tab-same {A} f g (suc n) h = ap₂ (λ (t : List A) (x : A). t ++ x ∷ []) (tab-same f g n (λ k l. h k (omega arith))) (h n (omega arith))
 
 module _ (g : Graph) (b : List ℕ) where
   abbrev stepAt : ℕ → ℕ → rule.Step
@@ -179,12 +153,7 @@ listed-more xs f k = rw add-one (append-assoc xs (tab f k) (f k ∷ []))
 module _ (c : ℕ → ℕ → ℤ) (count : ℕ) where
   pub lowest-none : Lowest c count 0 (replicate 4 0) (replicate 8 (pos 0))
   unfolding tab
-  lowest-none = record { winners = refl; costs = refl; bounded = record { each = zeros 8 } }
-    where
-      zeros : (n m : ℕ) → ∣ getD (replicate n (pos 0)) m (pos 0) ∣ ≤ 184717953466368
-      zeros zero m = omega arith
-      zeros (suc n) zero = omega arith
-      zeros (suc n) (suc m) = zeros n m
+  lowest-none = record { winners = refl; costs = refl; bounded = record { each = λ m. rw (replicate-at (pos 0) 8 m) (omega arith) } }
 
   pub lowest-more : (f : ℕ) (masks : List ℕ) (table : List ℤ) (mask : ℕ) (cost v : ℤ) → f < 4 → Lowest c count f masks table → Minimum (c f) count mask cost → v ≡ cost
       → Lowest c count (f + 1) (set masks f mask) (set table f v)

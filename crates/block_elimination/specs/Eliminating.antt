@@ -5,15 +5,13 @@ use mathlib.Core.List.{List, [], _++_}
 use mathlib.Core.Logic.{_≢_}
 use Prim.Native.Nat.{ℕ, _^_, _<_, _≤_}
 use native.Mathlib.Omega.{arith}
-use native.Mathlib.Decide.{decLt}
-use lib.ListN.{length, getD, take, drop, replicate, length-take, List·getD-append, List·getD-eq-default}
+use lib.ListN.{length, getD, take, drop, replicate, length-take, List·getD-append}
 use lib.Seq.{getD-take, length-take-le}
 use lib.IntN.{ℤ, pos}
 use Rattle.whole.specs.Parts.{∣_∣}
 use Rattle.whole.specs.Words.{tab}
 use Rattle.whole.specs.Lists.{length-tab, tab-at}
-use Rattle.whole.specs.Pigeon.{Apart}
-use Rattle.whole.specs.Members.{apart-at}
+use Rattle.whole.specs.Members.{apart-at, low-at}
 use Rattle.rules.specs.Graph.{Graph}
 use Rattle.rules.specs.Eliminate as rule
 use Rattle.rules.specs.Size.{Within}
@@ -28,17 +26,6 @@ use Rattle.small_block.specs.Tables.{Boundary, shape-boundary}
 use Rattle.block_minima.specs.Weights.{weights, Listed}
 use Rattle.block_elimination.specs.Block.{Lowest, Beside, pairOf, memberStep, Eliminable}
 use Rattle.block_elimination.specs.BlockLaws.{pair-whole, absorb-same, steps-are, lowest-are, within-drop-all}
-
--- a decision of a list, or 0 past its end
-low-at : (n : ℕ) (xs : List ℕ) (k : ℕ) → Apart n xs → n ≤ 64 → getD xs k 0 < 64
-low-at n xs k a h = go (decLt k (length xs))
-  where
-    past : (k < length xs → ⊥) → length xs ≤ k
-    past l = omega arith
-
-    go : Dec (k < length xs) → getD xs k 0 < 64
-    go (yes l) = omega (arith, apart-at n xs k a l)
-    go (no l) = omega (arith, List·getD-eq-default xs 0 (past l))
 
 module _ {g : Graph} {order : List ℕ} {count : ℕ} (w : Eliminable g order count) where
   pub members-few : count ≤ 8

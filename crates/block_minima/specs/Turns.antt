@@ -1,16 +1,14 @@
 -- One turn of each loop.
 -- Assumes nothing.
-use mathlib.Core.Path.{_≡_, sym, ap, _∙_}
+use mathlib.Core.Path.{_≡_, refl, sym, ap, _∙_}
 use mathlib.Core.Bool.{Bool, cond}
 use mathlib.Core.List.{List, [], _∷_, map}
-use Prim.Native.Nat.{ℕ, suc, _+_, _*_, _-_, _/_, _%_, _^_, _<_, _≤_}
+use Prim.Native.Nat.{ℕ, suc, _+_, _-_, _/_, _<_, _≤_}
 use native.Mathlib.Omega.{arith}
 use native.Mathlib.Numerals.{add-one}
-use native.Mathlib.Nat.{mod-eq-of-lt, one-mul}
-use lib.Pow.{pow-lt}
 use lib.ListN.{length, getD, take, drop}
 use lib.Seq.{drop-cons, length-take-le, getD-take}
-use lib.IntN.{ℤ, pos, _+ℤ_, +ℤ-assoc}
+use lib.IntN.{ℤ, pos, _+ℤ_, +ℤ-assoc, +ℤ-idr}
 use lib.Signed.{ltZ}
 use Rattle.whole.specs.Words.{odd, chosen}
 use Rattle.rules.specs.Graph.{Graph, lin, row}
@@ -27,29 +25,31 @@ module _ (list : List ℕ) (count : ℕ) (w : Listed list count) where
   pub none-left : (q : ℕ) → q ≡ count → drop q (take count list) ≡ []
   none-left q e = let l : length (take count list) ≤ q = omega (arith, listed-length) in lib.ListN.drop-of-length-le (take count list) l
 
+  -- one more summand of a sum over what is left, and none
+  sum-turn : (f : List ℕ → ℤ) (v z : ℤ) (q : ℕ) (s t : ℤ) → q < count → f (getD list q 0 ∷ drop (q + 1) (take count list)) ≡ v +ℤ z → s +ℤ f (drop q (take count list)) ≡ t → (s +ℤ v) +ℤ z ≡ t
+  sum-turn f v z q s t l e h = +ℤ-assoc s v z ∙ sym (ap (λ (x : ℤ). s +ℤ x) (ap f (next-of q l) ∙ e)) ∙ h
+
+  sum-end : (f : List ℕ → ℤ) (q : ℕ) (s t : ℤ) → f [] ≡ pos 0 → q ≡ count → s +ℤ f (drop q (take count list)) ≡ t → s ≡ t
+  sum-end f q s t z e h = sym (+ℤ-idr s) ∙ sym (ap (λ (x : ℤ). s +ℤ x) (ap f (none-left q e) ∙ z)) ∙ h
+
   pub chosen-turn : (E : ℕ → ℤ) (q rest : ℕ) (s t : ℤ) → q < count → s +ℤ chosen (map E (drop q (take count list))) rest ≡ t
       → (s +ℤ cond (odd rest) (E (getD list q 0)) (pos 0)) +ℤ chosen (map E (drop (q + 1) (take count list))) (rest / 2) ≡ t
   unfolding chosen
-  chosen-turn E q rest s t l h =
-      +ℤ-assoc s (cond (odd rest) (E (getD list q 0)) (pos 0)) (chosen (map E (drop (q + 1) (take count list))) (rest / 2))
-      ∙ sym (ap (λ (xs : List ℕ). s +ℤ chosen (map E xs) rest) (next-of q l)) ∙ h
+  chosen-turn E q rest s t l h = sum-turn (λ xs. chosen (map E xs) rest) (cond (odd rest) (E (getD list q 0)) (pos 0)) (chosen (map E (drop (q + 1) (take count list))) (rest / 2)) q s t l refl h
 
   pub chosen-end : (E : ℕ → ℤ) (q rest : ℕ) (s t : ℤ) → q ≡ count → s +ℤ chosen (map E (drop q (take count list))) rest ≡ t → s ≡ t
   unfolding chosen
-  chosen-end E q rest s t e h = sym (lib.IntN.+ℤ-idr s) ∙ sym (ap (λ (xs : List ℕ). s +ℤ chosen (map E xs) rest) (none-left q e)) ∙ h
+  chosen-end E q rest s t e h = sum-end (λ xs. chosen (map E xs) rest) q s t refl e h
 
   pub inner-turn : (g : Graph) (out : List ℕ) (f p rest : ℕ) (s t : ℤ) → p < count → s +ℤ inner g out f (drop p (take count list)) rest ≡ t
       → (s +ℤ cond (odd rest) (lin g (getD list p 0) +ℤ chosen (row g (getD list p 0) out) f +ℤ chosen (row g (getD list p 0) (drop (p + 1) (take count list))) (rest / 2)) (pos 0))
       +ℤ inner g out f (drop (p + 1) (take count list)) (rest / 2) ≡ t
   unfolding inner
-  inner-turn g out f p rest s t l h =
-      +ℤ-assoc s (cond (odd rest) (lin g (getD list p 0) +ℤ chosen (row g (getD list p 0) out) f +ℤ chosen (row g (getD list p 0) (drop (p + 1) (take count list))) (rest / 2)) (pos 0))
-      (inner g out f (drop (p + 1) (take count list)) (rest / 2))
-      ∙ sym (ap (λ (xs : List ℕ). s +ℤ inner g out f xs rest) (next-of p l)) ∙ h
+  inner-turn g out f p rest s t l h = sum-turn (λ xs. inner g out f xs rest) _ (inner g out f (drop (p + 1) (take count list)) (rest / 2)) p s t l refl h
 
   pub inner-end : (g : Graph) (out : List ℕ) (f p rest : ℕ) (s t : ℤ) → p ≡ count → s +ℤ inner g out f (drop p (take count list)) rest ≡ t → s ≡ t
   unfolding inner
-  inner-end g out f p rest s t e h = sym (lib.IntN.+ℤ-idr s) ∙ sym (ap (λ (xs : List ℕ). s +ℤ inner g out f xs rest) (none-left p e)) ∙ h
+  inner-end g out f p rest s t e h = sum-end (λ xs. inner g out f xs rest) p s t refl e h
 
 -- the cheapest of one mask more
 pub cheapest-turn : (c : ℕ → ℤ) (m best : ℕ) (t : Bool) → best ≡ cheapest c m → ltZ (c (m + 1)) (c best) ≡ t → cheapest c (m + 1) ≡ cond t (m + 1) best
@@ -66,6 +66,3 @@ cheapest-next c m best t l e h =
 
     down : m - 1 + 1 ≡ m
     down = omega arith
-
-pub size-is : (count : ℕ) → count < 64 → 1 * 2 ^ count % 18446744073709551616 ≡ 2 ^ count
-size-is count l = ap (λ (z : ℕ). z % 18446744073709551616) (one-mul (2 ^ count)) ∙ mod-eq-of-lt (pow-lt {j = 64} l)

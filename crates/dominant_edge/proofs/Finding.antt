@@ -18,12 +18,12 @@ use Rattle.whole.specs.Parts.{∣_∣}
 use Rattle.whole.specs.Ints.{ints, fit-lo, rd}
 use Rattle.whole.specs.Cmp.{lt-ind, below0-abs, above0-abs}
 use Rattle.whole.specs.Words.{isZeroZ, below0, above0}
-use Rattle.whole.specs.Masks.{these}
+use Rattle.whole.specs.Masks.{these, these-end as ended}
 use Rattle.rules.specs.Graph.{Graph, edge}
 use Rattle.rules.specs.DominantEdge.{nothing, at, negatives, positives, lo, hi, dominates, weak, first}
 use Rattle.low_degree.proofs.Laws.{fit, sum-fits, read-below}
 use Rattle.dominant_edge.specs.Answer.{verdictOf, testOf}
-use Rattle.dominant_edge.proofs.Taking.{parts, ended}
+use Rattle.dominant_edge.proofs.Taking.{parts}
 
 -- a test for 0, of the bits
 pub zero-test : (z : ℤ) → SFits w64 z → eqb (ofZ w64 z) 0 ≡ isZeroZ z

@@ -1,22 +1,22 @@
 -- Turns of the loops that build and fix, and bounds.
-use mathlib.Core.Path.{_≡_, refl, sym, ap, _∙_}
+use mathlib.Core.Path.{_≡_, sym, ap, _∙_}
 use mathlib.Core.Bool.{Bool, true, false, cond, not}
 use mathlib.Core.List.{List, [], _∷_, _++_}
-use Prim.Native.Nat.{ℕ, zero, suc, _+_, _*_, _-_, _<_, _≤_, _^_}
+use Prim.Native.Nat.{ℕ, zero, suc, _+_, _*_, _-_, _<_, _≤_}
 use native.Mathlib.Omega.{arith}
 use native.Mathlib.Numerals.{add-one}
 use lib.ListN.{length, getD, set, drop, take, replicate, drop-of-length-le}
 use lib.Seq.{getD-set-other, drop-cons, take-suc, take-length, set-at, append-snoc, length-take-le}
 use lib.Dec.{ltb}
 use borrow.Author.Tests.{eq-eqb, ne-eqb}
-use lib.IntN.{ℤ, pos, negsuc, natAbs, _+ℤ_}
-use lib.Signed.{mag}
+use lib.IntN.{ℤ, pos, natAbs, _+ℤ_}
 use mir.Syntax.{w64}
-use mir.Val.{SFits, ofZ}
+use mir.Val.{SFits}
 use Rattle.whole.specs.Parts.{natAbs-parts}
 use Rattle.whole.specs.Ints.{ints}
 use Rattle.whole.specs.Words.{isZeroZ, from, those, tab}
 use Rattle.whole.specs.Lists.{tab-replicate, drop-replicate}
+use Rattle.whole.specs.Those.{rest-more, rest-same, rest-end}
 use Rattle.rules.specs.Graph.{Graph, graph, edge, addLinear, addEdge, addTerm, addTerms}
 use Rattle.rules.specs.Fixing.{spread, fix, fixAll}
 use Rattle.rules.specs.Objective.{weightOf}
@@ -30,9 +30,13 @@ gain-fits l k v h = simp ints (omega (arith, weight-at l k, natAbs-parts (getD l
 pub sum-fits : (a b : ℤ) → natAbs a + natAbs b ≤ 4398046511104 → SFits w64 (a +ℤ b)
 sum-fits a b h = simp ints (omega (arith, natAbs-parts a, natAbs-parts b))
 
-pub weight-turn : (l : List ℤ) (k : ℕ) → k < length l → weightOf (drop k l) ≡ natAbs (getD l k (pos 0)) + weightOf (drop (k + 1) l)
+-- what is left of a list's weight
+pub weight-rest : (l : List ℤ) (k : ℕ) → weightOf (drop k l) ≡ natAbs (getD l k (pos 0)) + weightOf (drop (k + 1) l)
 unfolding weightOf
-weight-turn l k h = rw (add-one, drop-cons l k (pos 0) h)
+weight-rest [] zero = omega arith
+weight-rest [] (suc k) = rw add-one (omega arith)
+weight-rest (x ∷ l) zero = omega arith
+weight-rest (x ∷ l) (suc k) = rw add-one (rw add-one at (weight-rest l k))
 
 module _ (is js : List ℕ) (ws : List ℤ) (k : ℕ) (g : Graph) where
   pub terms-turn : k < length is → length js ≡ length is → length ws ≡ length is
@@ -56,31 +60,21 @@ front-step {A} w o₀ o k v d h m e f =
 pub front-end : {A : Type 0} (w o : List A) (k : ℕ) → k ≡ length w → take k w ++ drop k o ≡ w ++ drop (length w) o
 front-end w o k e = rw (e, take-length)
 
--- a weight that is, or is not, none
-pub zero-not : (z : ℤ) → (ofZ w64 z ≡ 0 → ⊥) → not (isZeroZ z) ≡ true
-zero-not (pos zero) h = absurd (h refl)
-zero-not (pos (suc n)) h = rw (ne-eqb (suc n) 0 (λ q. omega arith))
-zero-not (negsuc n) h = refl
-
-pub zero-is : (z : ℤ) → mag z < 2 ^ 63 → ofZ w64 z ≡ 0 → not (isZeroZ z) ≡ false
-zero-is (pos n) f h = rw (eq-eqb n 0 h)
-zero-is (negsuc n) f h = absurd (omega arith)
-
 module _ (old : Graph) (i j n : ℕ) (g : Graph) (h : j < n) where
   abbrev there : ℕ → Bool
   there j = not (isZeroZ (edge old i j))
 
   pub spread-more : not (isZeroZ (edge old i j)) ≡ true → spread old i (those there (from j (n - j))) g ≡ spread old i (those there (from (j + 1) (n - (j + 1)))) (addLinear j (edge old i j) g)
-  unfolding spread those from
-  spread-more e = let d : n - j ≡ suc (n - (j + 1)) = omega arith in rw (d, add-one, e)
+  unfolding spread
+  spread-more e = rw (rest-more there n j h e)
 
   pub spread-same : not (isZeroZ (edge old i j)) ≡ false → spread old i (those there (from j (n - j))) g ≡ spread old i (those there (from (j + 1) (n - (j + 1)))) g
-  unfolding spread those from
-  spread-same e = let d : n - j ≡ suc (n - (j + 1)) = omega arith in rw (d, add-one, e)
+  unfolding spread
+  spread-same e = rw (rest-same there n j h e)
 
 pub spread-end : (old : Graph) (i j n : ℕ) (g : Graph) → n ≤ j → spread old i (those (λ j. not (isZeroZ (edge old i j))) (from j (n - j))) g ≡ g
-unfolding spread those from
-spread-end old i j n g h = let d : n - j ≡ 0 = omega arith in rw d
+unfolding spread
+spread-end old i j n g h = rw (rest-end (λ j. not (isZeroZ (edge old i j))) n j h)
 
 module _ (vs : List ℕ) (i : ℕ) (g : Graph) where
   pub fix-more : i < length vs → ltb (getD vs i 0) 2 ≡ true → fixAll i (drop i vs) g ≡ fixAll (i + 1) (drop (i + 1) vs) (fix i (getD vs i 0) g)
@@ -115,14 +109,6 @@ module _ (i j : ℕ) (w : ℤ) (l e : List ℤ) where
 
 pub states-end : (n k : ℕ) (ss : List ℕ) → n ≤ 64 → k ≡ n → ss ≡ tab (λ k. 2) k ++ drop k (replicate 64 0) → ss ≡ replicate n 2 ++ replicate (64 - n) 0
 states-end n k ss h e d = d ∙ rw (e, tab-replicate {A = ℕ} 2 n, drop-replicate {A = ℕ} n 64 0 h)
-
--- the same with no length
-pub weight-rest : (l : List ℤ) (k : ℕ) → weightOf (drop k l) ≡ natAbs (getD l k (pos 0)) + weightOf (drop (k + 1) l)
-unfolding weightOf
-weight-rest [] zero = omega arith
-weight-rest [] (suc k) = rw add-one (omega arith)
-weight-rest (x ∷ l) zero = omega arith
-weight-rest (x ∷ l) (suc k) = rw add-one (rw add-one at (weight-rest l k))
 
 pub lin-gain : (m j : ℕ) (b : ℤ) (l l′ e : List ℤ) (ss : List ℕ) (x w v : ℤ) → l′ ≡ set l j (getD l j (pos 0) +ℤ x) → x ≡ w → w ≡ v → addLinear j v (graph m b l e ss) ≡ graph m b l′ e ss
 unfolding addLinear

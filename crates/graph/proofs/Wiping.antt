@@ -18,10 +18,9 @@ use Rattle.whole.specs.Words.{bit, mem}
 use Rattle.whole.specs.Tests.{cases, clash}
 use Rattle.whole.specs.Members.{apart-new}
 use Rattle.whole.specs.Pigeon.{Apart}
-use Rattle.whole.specs.Masks.{these, these-apart, mem-these, first-in, bit-none}
+use Rattle.whole.specs.Masks.{these, these-apart, mem-these, first-in, bit-none, turn}
 use Rattle.rules.specs.Graph.{clear}
 use Rattle.graph.specs.Shows.{Shows}
-use Rattle.graph.proofs.Lowest.{parts, first-below, others-low}
 use Rattle.graph.specs.ShowsLaws.{cell, isEdge, Marked, joined}
 
 -- ---- clearing, whatever of it is done already
@@ -76,16 +75,16 @@ module _ (rest : ℕ) (d : rest ≢ 0) (low : rest < 2 ^ 64) where
   others = bitAnd rest (rest - 1)
 
   below : first < 64
-  below = first-below rest d low
+  below = turn rest d low .below
 
   off-first : bit others first ≡ false
-  off-first = sym (mem-these others first below) ∙ apart-new (subst (Apart 64) (parts rest d low) (these-apart rest))
+  off-first = sym (mem-these others first below) ∙ apart-new (subst (Apart 64) (turn rest d low .parts) (these-apart rest))
 
   others-marked : Marked rest first (pos 0) others
   unfolding mem
   others-marked t h = cases (eqb t first)
       (λ y. ap (bit others) (eqb-true t first y) ∙ off-first ∙ sym (ap (λ (c : Bool). cond c false (bit rest t)) y))
-      (λ y. sym (mem-these others t h) ∙ ap (λ (c : Bool). c || mem t (these others)) (sym y) ∙ ap (mem t) (sym (parts rest d low)) ∙ mem-these rest t h ∙ sym (ap (λ (c : Bool). cond c false (bit rest t)) y))
+      (λ y. sym (mem-these others t h) ∙ ap (λ (c : Bool). c || mem t (these others)) (sym y) ∙ ap (mem t) (sym (turn rest d low .parts)) ∙ mem-these rest t h ∙ sym (ap (λ (c : Bool). cond c false (bit rest t)) y))
 
   -- and its edge is none, both ways round
   module _ (n : ℕ) (e : List ℤ) (m : List ℕ) (i r : ℕ) (s : Shows n e (set m i rest)) (hi : i < 64) (fr : r < 2 ^ 64) (w : Marked (getD m first 0) i (pos 0) r) where
@@ -117,7 +116,7 @@ module _ (rest : ℕ) (d : rest ≢ 0) (low : rest < 2 ^ 64) where
 
     joins : (t : ℕ) → t < 2 ^ 64 → Marked (getD (set (set m i rest) i others) first 0) i (pos 0) t → Shows n less (set (set (set m i rest) i others) first t)
     joins t ft wt =
-        joined n e (set m i rest) s i first own-inside inside hi below (pos 0) others t (others-low rest d low) ft
+        joined n e (set m i rest) s i first own-inside inside hi below (pos 0) others t (turn rest d low .smaller) ft
         (λ k h. others-marked k h ∙ ap (λ (z : ℕ). cond (eqb k first) false (bit z k)) (sym own)) wt
 
     twice : set (set m i rest) i others ≡ set m i others
@@ -134,7 +133,7 @@ module _ (rest : ℕ) (d : rest ≢ 0) (low : rest < 2 ^ 64) where
             let same : getD (set (set m i rest) i others) first 0 ≡ others = ap₂ (λ (l : List ℕ) (k : ℕ). getD l k 0) twice (sym a) ∙ getD-set-same m i others 0 (omega (arith, long)) in
             subst (Shows n less)
             (ap₂ (λ (l : List ℕ) (k : ℕ). set l k others) twice (sym a) ∙ set-set m i others others ∙ sym (ap (λ (k : ℕ). set (set m k r) i others) (sym a) ∙ set-set m i r others))
-            (joins others (others-low rest d low) (λ k h. cases (eqb k i)
+            (joins others (turn rest d low .smaller) (λ k h. cases (eqb k i)
             (λ y. ap (bit others) (eqb-true k i y ∙ a) ∙ off-first ∙ sym (ap (λ (c : Bool). cond c false (bit (getD (set (set m i rest) i others) first 0) k)) y))
             (λ y. ap (λ (z : ℕ). bit z k) (sym same) ∙ sym (ap (λ (c : Bool). cond c false (bit (getD (set (set m i rest) i others) first 0) k)) y))))
 

@@ -1,14 +1,14 @@
 -- Laws of the masks that show the edges: the list of a decision's neighbours, no edge at all, an edge set both ways round.
 -- Assumes nothing.
 use mathlib.Core.Path.{_≡_, refl, sym, ap, _∙_, subst}
-use mathlib.Core.Bool.{Bool, false, cond, not, _&&_}
+use mathlib.Core.Bool.{Bool, cond, not, _&&_}
 use mathlib.Core.List.{List, [], _∷_}
 use mathlib.Core.Logic.{_≢_}
 use Prim.Native.Nat.{ℕ, zero, suc, _+_, _*_, _-_, _^_, _<_, _≤_}
 use native.Mathlib.Omega.{arith}
 use native.Mathlib.Decide.{ℕ-discrete}
 use lib.Dec.{eqb}
-use lib.ListN.{length, getD, set, replicate, length-set, length-replicate}
+use lib.ListN.{length, getD, set, length-set, length-replicate}
 use lib.Seq.{getD-set-same, getD-set-other}
 use lib.IntN.{ℤ, pos, _+ℤ_}
 use borrow.Author.Tests.{eqb-true, eq-eqb, ne-eqb}
@@ -16,9 +16,11 @@ use Rattle.whole.specs.Words.{bit, isZeroZ, upto, those}
 use Rattle.whole.specs.Tests.{cases, clash, and-true, and-both}
 use Rattle.whole.specs.Members.{upto-in}
 use Rattle.whole.specs.Masks.{these, those-ext, bit-none}
+use Rattle.whole.specs.Those.{those-upto}
+use Rattle.whole.specs.Lists.{replicate-at}
 use Rattle.rules.specs.Graph.{graph, neighbours, noEdges}
 use Rattle.graph.specs.Shows.{Shows, noMasks}
-use Rattle.graph.specs.NearLaws.{there, those-same}
+use Rattle.graph.specs.NearLaws.{there}
 
 -- the cell of i and j, and whether it is an edge
 abbrev pub cell : List ℤ → ℕ → ℕ → ℤ
@@ -28,13 +30,6 @@ abbrev pub isEdge : ℤ → Bool
 isEdge z = not (isZeroZ z)
 
 -- ---- the neighbours
--- none passes from n on
-those-upto : (p : ℕ → Bool) (n c : ℕ) → ((k : ℕ) → n ≤ k → k < n + c → p k ≡ false) → those p (upto (n + c)) ≡ those p (upto n)
-those-upto p n zero h = let e : n + 0 ≡ n = omega arith in ap (λ (k : ℕ). those p (upto k)) e
-those-upto p n (suc c) h =
-    let e : n + suc c ≡ n + c + 1 = omega arith in
-    ap (λ (k : ℕ). those p (upto k)) e ∙ those-same p (n + c) (h (n + c) (omega arith) (omega arith)) ∙ those-upto p n c (λ k l m. h k l (omega arith))
-
 pub shown : (n : ℕ) (e : List ℤ) (m : List ℕ) → Shows n e m → n ≤ 64 → (c : ℤ) (l : List ℤ) (ss : List ℕ) (i : ℕ) → i < 64
     → these (getD m i 0) ≡ neighbours (graph n c l e ss) i
 unfolding these neighbours
@@ -45,11 +40,6 @@ shown n e m s h c l ss i hi =
     ∙ those-upto (there e i) n (64 - n) (λ k t u. ap isEdge (s .none i k hi (omega arith) t))
 
 -- ---- no edge at all
-zeros-at : {A : Type 0} (z : A) (n k : ℕ) → getD (replicate n z) k z ≡ z
-zeros-at z zero k = refl
-zeros-at z (suc n) zero = refl
-zeros-at z (suc n) (suc k) = zeros-at z n k
-
 pub shows-none : (n : ℕ) (e : List ℤ) (m : List ℕ) → e ≡ noEdges → m ≡ noMasks → Shows n e m
 unfolding noEdges noMasks
 shows-none n e m p q = record {
@@ -62,10 +52,10 @@ shows-none n e m p q = record {
 }
   where
     blank : (i : ℕ) → getD m i 0 ≡ 0
-    blank i = ap (λ (l : List ℕ). getD l i 0) q ∙ zeros-at {A = ℕ} 0 64 i
+    blank i = ap (λ (l : List ℕ). getD l i 0) q ∙ replicate-at {A = ℕ} 0 64 i
 
     bare : (i j : ℕ) → cell e i j ≡ pos 0
-    bare i j = ap (λ (l : List ℤ). cell l i j) p ∙ zeros-at (pos 0) 4096 (64 * i + j)
+    bare i j = ap (λ (l : List ℤ). cell l i j) p ∙ replicate-at (pos 0) 4096 (64 * i + j)
 
 -- ---- one cell is set, and its bit
 -- r is m with l in it where x is an edge, and without l where it is none

@@ -5,19 +5,19 @@ use mathlib.Core.Bool.{Bool, true, false, cond}
 use mathlib.Core.List.{List, [], _∷_, _++_}
 use Prim.Native.Nat.{ℕ, zero, suc, _+_, _*_, _/_, _^_, _<_, _≤_}
 use native.Mathlib.Omega.{arith}
-use lib.ListN.{length, getD}
+use lib.ListN.{length, getD, length-map}
 use lib.Pow.{pow-mono}
 use lib.IntN.{ℤ, pos, _+ℤ_}
 use lib.Signed.{ltZ}
 use Rattle.whole.specs.Parts.{∣_∣}
 use Rattle.whole.specs.Words.{tab, odd, chosen, bitsFrom, oneIf, below0}
-use Rattle.whole.specs.Lists.{tab-at}
+use Rattle.whole.specs.Lists.{tab-at, tab-same}
 use Rattle.rules.specs.Graph.{Graph, lin, edge, neighbours, degree, row}
 use Rattle.rules.specs.Eliminate.{delta, chooses, tee, stepOf}
 use Rattle.rules.specs.Record.{hold}
 use Rattle.rules.specs.Size.{Within}
 use Rattle.graph.specs.Near.{three, nearOf}
-use Rattle.graph.specs.NearLaws.{length-map, near-count, near-list, near-weights}
+use Rattle.graph.specs.NearLaws.{near-count, near-list, near-weights}
 use Rattle.accepted.specs.Small.{Small}
 use Rattle.graph.specs.Small.{small-near}
 use Rattle.graph.specs.declared.Near.{Near}
@@ -40,11 +40,6 @@ three-same : (xs ys : List ℤ) → ((k : ℕ) → k < 3 → getD xs k (pos 0) �
 three-same xs ys h = rw (h 0 (omega arith), h 1 (omega arith), h 2 (omega arith))
 
 -- ---- lists and masks that are made by a rule
-tab-same : {A : Type 0} (f h : ℕ → A) (n : ℕ) → ((m : ℕ) → m < n → f m ≡ h m) → tab f n ≡ tab h n
-unfolding tab
-tab-same f h zero e = refl
-tab-same f h (suc n) e = ap₂ (λ xs x. xs ++ (x ∷ [])) (tab-same f h n (λ m l. e m (omega arith))) (e n (omega arith))
-
 bits-alike : (f h : ℕ → Bool) (b c : ℕ) → ((m : ℕ) → m < b + c → f m ≡ h m) → bitsFrom f b c ≡ bitsFrom h b c
 unfolding bitsFrom
 bits-alike f h b zero e = refl
@@ -55,7 +50,7 @@ module _ (g : Graph) (i : ℕ) (near : Near) (is : near ≡ nearOf g i) (few : n
   degree-few = omega (arith, near-count g i near is)
 
   row-few : length (row g i (neighbours g i)) ≤ 3
-  row-few = omega (arith, degree-few, length-map (λ j. edge g i j) (neighbours g i))
+  row-few = omega (arith, degree-few, length-map (neighbours g i) (λ j. edge g i j))
 
   pub deltas-table : deltasOf (lin g i) (near .weights) ≡ tab (delta g i) 8
   unfolding deltasOf

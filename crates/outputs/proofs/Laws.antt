@@ -12,7 +12,7 @@ use lib.Seq.{take-suc-set, append-snoc, getD-set-same, getD-set-other, getD-take
 use lib.IntN.{ℤ, pos}
 use borrow.Author.Tests.{ltb-true, ltb-false}
 use Rattle.whole.specs.Words.{those, from, upto, tab}
-use Rattle.whole.specs.Lists.{tab-at, tab-map, length-tab}
+use Rattle.whole.specs.Lists.{tab-at, tab-map, length-tab, tab-same}
 use Rattle.whole.specs.Those.{rest-more}
 pub use Rattle.whole.specs.Those.{rest-same as those-same, rest-end as those-end}
 use Rattle.rules.specs.Graph.{Graph, actives}
@@ -50,11 +50,6 @@ pad-at [] (suc m) zero h = refl
 pad-at [] (suc m) (suc i) h = pad-at [] m i (omega arith)
 pad-at (x ∷ a) m zero h = absurd (omega arith)
 pad-at (x ∷ a) m (suc i) h = pad-at a m i (omega arith)
-
-tab-cong : (f g : ℕ → ℤ) (n : ℕ) → ((k : ℕ) → k < n → f k ≡ g k) → tab f n ≡ tab g n
-unfolding tab
-tab-cong f g zero h = refl
-tab-cong f g (suc n) h = rw (tab-cong f g n (λ k l. h k (omega arith)), h n (omega arith))
 
 test : (S : Bool → Type 0) (a b : ℕ) → (a < b → S true) → (b ≤ a → S false) → S (ltb a b)
 test S a b f g = go (ltb a b) refl
@@ -105,7 +100,7 @@ module _ (r : Remaining) (ok : Places (r .list) (r .len)) where
         (λ s. refl))
 
     pub edges-out : tab (edgeAt l (r .list) (r .len)) 4096 ≡ map (cellOf l (rest r)) (upto 4096)
-    edges-out = tab-cong (edgeAt l (r .list) (r .len)) (cellOf l (rest r)) 4096 (λ k h. cell-at k) ∙ sym (tab-map (cellOf l (rest r)) 4096)
+    edges-out = tab-same (edgeAt l (r .list) (r .len)) (cellOf l (rest r)) 4096 (λ k h. cell-at k) ∙ sym (tab-map (cellOf l (rest r)) 4096)
 
 -- the rules' outputs of a graph whose remaining decisions are these
 module _ (g : Graph) (r : Remaining) (ok : Places (r .list) (r .len)) (h : rest r ≡ actives g) where

@@ -3,16 +3,14 @@ use Prim.Native.Nat.{ℕ, zero, suc, _+_, _*_, _-_, _%_, _^_, _<_}
 use mathlib.Core.Path.{_≡_, refl, ap, ap₂, sym, _∙_}
 use mathlib.Core.List.{List, [], _∷_, _++_}
 use mathlib.Core.Bool.{Bool, true, false, not, _&&_, _||_, or-false, and-true}
-use native.Mathlib.Nat.{mod-eq-of-lt, one-mul}
 use native.Mathlib.Numerals.{add-one}
 use native.Mathlib.Omega.{arith}
 use lib.Bits.{bitAnd, bitOr, bitXor}
 use lib.Dec.{eqb}
 use lib.ListN.{getD, set, length}
-use lib.Pow.{pow-lt}
 use lib.Seq.{getD-set-same, getD-set-other}
 use borrow.Author.Tests.{eqb-true}
-use Rattle.whole.specs.Masks.{bit-or, bit-less, bit-single}
+use Rattle.whole.specs.Masks.{bit-or, bit-less, bit-shifted}
 use Rattle.whole.specs.Tests.{cases}
 use Rattle.whole.specs.Words.{mem, bit}
 use Rattle.whole.specs.Pigeon.{Apart, none, one, pigeon}
@@ -75,13 +73,10 @@ module _ (w : ℕ) (xs : List ℕ) (d : ℕ) (l : d < 64) where
   abbrev single : ℕ
   single = 1 * 2 ^ d % 2 ^ 64
 
-  in-single : (k : ℕ) → bit single k ≡ eqb k d
-  in-single k = ap (λ (m : ℕ). bit m k) (ap (λ (m : ℕ). m % 2 ^ 64) (one-mul (2 ^ d)) ∙ mod-eq-of-lt (pow-lt l)) ∙ bit-single d k
-
   pub shown-less : Apart 64 (d ∷ xs) → ((k : ℕ) → k < 64 → bit w k ≡ mem k (d ∷ xs)) → (k : ℕ) → k < 64 → bit (bitXor w (bitAnd w single)) k ≡ mem k xs
   unfolding mem
   shown-less a h k lk =
-      bit-less w single k ∙ ap₂ (λ (p q : Bool). p && not q) (h k lk) (in-single k)
+      bit-less w single k ∙ ap₂ (λ (p q : Bool). p && not q) (h k lk) (bit-shifted d k l)
       ∙ cases (eqb k d)
       (λ e. rw e (sym (ap (λ (j : ℕ). mem j xs) (eqb-true k d e) ∙ apart-new a)))
       (λ e. rw e (and-true (mem k xs)))
@@ -89,4 +84,4 @@ module _ (w : ℕ) (xs : List ℕ) (d : ℕ) (l : d < 64) where
   pub shown-more : ((k : ℕ) → k < 64 → bit w k ≡ mem k xs) → (k : ℕ) → k < 64 → bit (bitOr w single) k ≡ mem k (xs ++ (d ∷ []))
   unfolding mem
   shown-more h k lk =
-      bit-or w single k ∙ ap₂ (λ (p q : Bool). p || q) (h k lk) (in-single k ∙ sym (or-false (eqb k d))) ∙ sym (mem-append k xs (d ∷ []))
+      bit-or w single k ∙ ap₂ (λ (p q : Bool). p || q) (h k lk) (bit-shifted d k l ∙ sym (or-false (eqb k d))) ∙ sym (mem-append k xs (d ∷ []))

@@ -5,7 +5,6 @@ use mathlib.Core.Bool.{Bool, true, false, cond, not, _&&_, and-false, or-false}
 use mathlib.Core.List.{List, [], _∷_}
 use mathlib.Core.Logic.{_≢_}
 use Prim.Native.Nat.{ℕ, _^_, _<_, _≤_}
-use native.Mathlib.Omega.{arith}
 use lib.Dec.{eqb, ltb}
 use lib.Bits.{bitAnd, bitXor, and-lt, xor-lt}
 use lib.Count.{trailingZeros}
@@ -14,7 +13,7 @@ use Rattle.whole.specs.Words.{bit, mem, those, some}
 use Rattle.rules.specs.SmallBlock.{component, besides, isCut}
 use Rattle.whole.specs.Members.{out-of-cons, in-head}
 use Rattle.meaning.specs.Growth.{Network, parted, free, cut-from-first}
-use Rattle.whole.specs.Masks.{these, bit-single, these-less, these-none, these-step, first-in, those-ext}
+use Rattle.whole.specs.Masks.{these, bit-single, these-less, these-end, first-in, those-ext, turn}
 use Rattle.small_block.specs.Held.{nearBy, removedBy}
 
 -- the removed one: a number below 64, or none
@@ -61,7 +60,7 @@ module _ (masks : List ℕ) (removed c : ℕ) (net : Network 64 (nearBy masks)) 
   module _ (around : ℕ) (low : around < 2 ^ 64) (is : these around ≡ besides (nearBy masks) (removedBy removed) c) where
     pub cut-none : around ≡ 0 → false ≡ isCut (nearBy masks) (removedBy removed) c
     cut-none e = sym (cut-from-first 64 (nearBy masks) net (removedBy removed) c lc
-        ∙ ap (λ (xs : List ℕ). not (mem c (removedBy removed)) && parted (nearBy masks) (c ∷ removedBy removed) xs) (sym is ∙ ap these e ∙ these-none)
+        ∙ ap (λ (xs : List ℕ). not (mem c (removedBy removed)) && parted (nearBy masks) (c ∷ removedBy removed) xs) (sym is ∙ these-end around e)
         ∙ and-false (not (mem c (removedBy removed))))
 
     abbrev first : ℕ
@@ -73,8 +72,8 @@ module _ (masks : List ℕ) (removed c : ℕ) (net : Network 64 (nearBy masks)) 
     parted-first : around ≢ 0 → parted (nearBy masks) (c ∷ removedBy removed) (these around)
         ≡ some (λ v. not (mem v (component (nearBy masks) (c ∷ removedBy removed) first))) (these around)
     parted-first d =
-        ap (parted (nearBy masks) (c ∷ removedBy removed)) (these-step around (omega arith) low)
-        ∙ ap (some (λ v. not (mem v (component (nearBy masks) (c ∷ removedBy removed) first)))) (sym (these-step around (omega arith) low))
+        ap (parted (nearBy masks) (c ∷ removedBy removed)) (turn around d low .parts)
+        ∙ ap (some (λ v. not (mem v (component (nearBy masks) (c ∷ removedBy removed) first)))) (sym (turn around d low .parts))
 
     -- the neighbours but for the removed one are not set aside
     pub around-free : (k : ℕ) → mem k (these around) ≡ true → mem k (c ∷ removedBy removed) ≡ false

@@ -17,7 +17,7 @@ use Rattle.rules.specs.SmallBlock.{component}
 use Rattle.whole.specs.Tests.{cases, clash, refuse, or-true, or-false, or-left, or-right, and-true, and-both, not-off, not-on, on-not, off-not}
 use Rattle.whole.specs.Members.{in-cons, in-head, in-append, in-left, in-right, some-true, some-none, apart-below}
 use Rattle.meaning.specs.Growth.{Network, Grown, component-grown}
-use Rattle.whole.specs.Masks.{these, bit-or, bit-and, bit-less, bit-single, bit-none, mem-these, these-below, these-step, first-in, rest-less}
+use Rattle.whole.specs.Masks.{these, bit-or, bit-and, bit-less, bit-single, bit-none, mem-these, these-below, first-in, turn}
 use Rattle.small_block.specs.Held.{nearBy}
 use Rattle.small_block.specs.Cutting.{low-mask}
 
@@ -76,7 +76,7 @@ module _ (masks : List ℕ) (net : Network 64 (nearBy masks)) {aside : List ℕ}
   reach-stop e d l =
       let v = trailingZeros 64 left in
       let m : mem v (these left) ≡ true = first-in left d l in
-      let b = these-below left v m in
+      let b = turn left d l .below in
       let p = and-true (bit around v) (not (bit seen v)) (sym (w .rest v b) ∙ sym (mem-these left v b) ∙ m) in
       sym (some-true (λ v. not (mem v (component (nearBy masks) aside u))) v (these around) (mem-these around v b ∙ p .0)
       (not-off (refuse (mem v (component (nearBy masks) aside u)) (λ t. clash (holds v t) (off-not (bit seen v) (p .1))))))
@@ -106,7 +106,7 @@ module _ (masks : List ℕ) (net : Network 64 (nearBy masks)) {aside : List ℕ}
     later = bitAnd todo (todo - 1)
 
     pub next-low : trailingZeros 64 todo < 64
-    next-low = these-below todo (trailingZeros 64 todo) (first-in todo d lt)
+    next-low = turn todo d lt .below
 
     now-queued : (bit seen (trailingZeros 64 todo) ≡ true) × (mem (trailingZeros 64 todo) aside ≡ false)
     now-queued = w .queued (trailingZeros 64 todo) next-low (sym (mem-these todo (trailingZeros 64 todo) next-low) ∙ first-in todo d lt)
@@ -116,7 +116,7 @@ module _ (masks : List ℕ) (net : Network 64 (nearBy masks)) {aside : List ℕ}
     later-todo k b t = and-true (bit todo k) (bit (todo - 1) k) (sym (bit-and todo (todo - 1) k) ∙ t) .0
 
     todo-later : (k : ℕ) → k < 64 → bit todo k ≡ true → bit (bitAnd todo (todo - 1)) k ≡ false → k ≡ trailingZeros 64 todo
-    todo-later k b t z = in-cons k (trailingZeros 64 todo) (these (bitAnd todo (todo - 1))) (ap (mem k) (sym (these-step todo (omega arith) lt)) ∙ mem-these todo k b ∙ t)
+    todo-later k b t z = in-cons k (trailingZeros 64 todo) (these (bitAnd todo (todo - 1))) (ap (mem k) (sym (turn todo d lt .parts)) ∙ mem-these todo k b ∙ t)
         (λ q. q) (λ q. clash (sym (mem-these (bitAnd todo (todo - 1)) k b) ∙ q) z)
 
     new-is : (k : ℕ) → k < 64 → bit new k ≡ true → (mem k (nearBy masks (trailingZeros 64 todo)) ≡ true) × (bit seen k ≡ false)
@@ -180,7 +180,7 @@ module _ (masks : List ℕ) (net : Network 64 (nearBy masks)) {aside : List ℕ}
       seen-low = or-lt 64 seen new ls new-low
 
       pub todo-low : bitOr (bitAnd todo (todo - 1)) (bitXor (getD masks (trailingZeros 64 todo) 0) (bitAnd (getD masks (trailingZeros 64 todo) 0) seen)) < 2 ^ 64
-      todo-low = or-lt 64 later new (omega (arith, rest-less todo d lt)) new-low
+      todo-low = or-lt 64 later new (turn todo d lt .smaller) new-low
 
       pub left-low : left < 2 ^ 64 → bitXor left (bitAnd left (bitXor (getD masks (trailingZeros 64 todo) 0) (bitAnd (getD masks (trailingZeros 64 todo) 0) seen))) < 2 ^ 64
       left-low l = low-mask left new l new-low
@@ -190,4 +190,4 @@ module _ (masks : List ℕ) (net : Network 64 (nearBy masks)) {aside : List ℕ}
           2 ^ 64 - bitOr seen (bitXor (getD masks (trailingZeros 64 todo) 0) (bitAnd (getD masks (trailingZeros 64 todo) 0) seen))
           + bitOr (bitAnd todo (todo - 1)) (bitXor (getD masks (trailingZeros 64 todo) 0) (bitAnd (getD masks (trailingZeros 64 todo) 0) seen))
           < 2 ^ 64 - seen + todo
-      reach-less = omega (arith, or-disjoint seen new apart-new, or-add-and later new, rest-less todo d lt, seen-low)
+      reach-less = omega (arith, or-disjoint seen new apart-new, or-add-and later new, turn todo d lt .less, seen-low)

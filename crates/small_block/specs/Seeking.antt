@@ -15,7 +15,7 @@ use Rattle.whole.specs.Words.{bit, mem}
 use Rattle.rules.specs.SmallBlock.{component, isCut, none, members, small, orElse, among, overCuts, overRemoved, search}
 use Rattle.whole.specs.Tests.{clash, refuse, and-true, same-test, or-true, or-left, or-right}
 use Rattle.whole.specs.Members.{in-append, in-left, in-right}
-use Rattle.whole.specs.Masks.{these, bit-or, these-step, these-none, first-in, these-below, rest-less}
+use Rattle.whole.specs.Masks.{these, bit-or, these-end, turn}
 use Rattle.small_block.specs.Held.{blockBy}
 use Rattle.small_block.specs.Going.{GrownAs}
 
@@ -24,21 +24,6 @@ no-block order count e = ap (λ (t : Bool). cond t none (members (take count ord
 
 pub a-block : (order : List ℕ) (count : ℕ) → count ≢ 0 → blockBy order count ≡ members (take count order)
 a-block order count d = ap (λ (t : Bool). cond t none (members (take count order))) (ne-eqb count 0 d)
-
--- a turn of a loop over a mask: its lowest decision, and the others
-pub record Turn (rest : ℕ) : Type 0 where
-  pub parts : these rest ≡ trailingZeros 64 rest ∷ these (bitAnd rest (rest - 1))
-  pub below : trailingZeros 64 rest < 64
-  pub less : bitAnd rest (rest - 1) < rest
-  pub smaller : bitAnd rest (rest - 1) < 2 ^ 64
-
-pub turn : (rest : ℕ) → rest ≢ 0 → rest < 2 ^ 64 → Turn rest
-turn rest d h = record {
-  parts = these-step rest (omega arith) h;
-  below = these-below rest (trailingZeros 64 rest) (first-in rest d h);
-  less = rest-less rest d h;
-  smaller = omega (arith, rest-less rest d h);
-}
 
 -- ---- among the components
 -- the decisions of `rest` are still to be looked at; `past` has been seen
@@ -51,7 +36,7 @@ pub record Seeking (near : ℕ → List ℕ) (aside live : List ℕ) (rest seen 
 module _ {near : ℕ → List ℕ} {aside live : List ℕ} {rest seen : ℕ} (w : Seeking near aside live rest seen) where
   pub seek-none : rest ≡ 0 → none ≡ among near aside aside live
   unfolding among
-  seek-none e = sym (w .leads ∙ ap (among near aside (w .past)) (ap these e ∙ these-none))
+  seek-none e = sym (w .leads ∙ ap (among near aside (w .past)) (these-end rest e))
 
   module _ (d : rest ≢ 0) (h : rest < 2 ^ 64) where
     seek-step : among near aside aside live
@@ -107,7 +92,7 @@ module _ {near : ℕ → List ℕ} {aside live : List ℕ} {rest seen : ℕ} (w 
 module _ (near : ℕ → List ℕ) (live removed : List ℕ) (rest : ℕ) where
   pub cuts-none : rest ≡ 0 → none ≡ overCuts near live removed (these rest)
   unfolding overCuts
-  cuts-none e = sym (ap (overCuts near live removed) (ap these e ∙ these-none))
+  cuts-none e = sym (ap (overCuts near live removed) (these-end rest e))
 
   module _ (d : rest ≢ 0) (h : rest < 2 ^ 64) where
     cuts-step : overCuts near live removed (these rest)
@@ -132,7 +117,7 @@ module _ (near : ℕ → List ℕ) (live removed : List ℕ) (rest : ℕ) where
 module _ (near : ℕ → List ℕ) (live : List ℕ) (rest : ℕ) where
   pub removed-over : rest ≡ 0 → none ≡ overRemoved near live (these rest)
   unfolding overRemoved
-  removed-over e = sym (ap (overRemoved near live) (ap these e ∙ these-none))
+  removed-over e = sym (ap (overRemoved near live) (these-end rest e))
 
   module _ (d : rest ≢ 0) (h : rest < 2 ^ 64) where
     removed-step : overRemoved near live (these rest) ≡ orElse (overCuts near live (trailingZeros 64 rest ∷ []) live) (overRemoved near live (these (bitAnd rest (rest - 1))))

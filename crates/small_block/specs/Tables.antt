@@ -1,27 +1,25 @@
 -- The masks of a graph: each decision's neighbours, and the active decisions.
 -- Assumes nothing.
 use mathlib.Core.Path.{_≡_, refl, sym, ap, ap₂, _∙_, fun-ext}
-use mathlib.Core.Bool.{Bool, true, false, cond, not, _&&_, _||_, and-false, and-comm, or-false, or-assoc, and-or-distrib-left}
-use mathlib.Core.List.{List, [], _∷_, _++_, append-nil}
+use mathlib.Core.Bool.{Bool, true, false, not, _&&_, _||_, and-false, and-comm, or-false, or-assoc, and-or-distrib-left}
+use mathlib.Core.List.{List, [], _∷_, _++_}
 use mathlib.Core.Logic.{_≢_}
-use Prim.Native.Nat.{ℕ, zero, suc, _+_, _*_, _-_, _^_, _<_, _≤_}
+use Prim.Native.Nat.{ℕ, _+_, _*_, _-_, _^_, _<_, _≤_}
 use native.Mathlib.Omega.{arith}
 use native.Mathlib.Decide.{decLt, ℕ-discrete}
 use lib.Dec.{eqb, ltb}
 use lib.Bits.{bitOr, bitAnd, bitXor}
 use lib.ListN.{length, getD, take, set, List·getD-eq-default}
 use lib.Seq.{getD-set-same, getD-set-other}
-use lib.IntN.{ℤ, pos, negsuc}
-use lib.Signed.{mag}
-use mir.Syntax.{w64}
-use mir.Val.{ofZ}
-use borrow.Author.Tests.{lt-ltb, le-ltb, ltb-true, ltb-false, ne-eqb, eqb-true, eqb-false}
-use Rattle.whole.specs.Words.{isZeroZ, bit, from, upto, mem, those, some}
-use Rattle.rules.specs.Graph.{Graph, active, actives, neighbours}
+use lib.IntN.{ℤ, pos}
+use borrow.Author.Tests.{lt-ltb, le-ltb, ltb-true, ltb-false, eqb-true, eqb-false}
+use Rattle.whole.specs.Words.{isZeroZ, bit, upto, mem, those, some}
+use Rattle.rules.specs.Graph.{Graph, actives, neighbours}
 use Rattle.rules.specs.SmallBlock.{findBlock, boundary}
 use Rattle.whole.specs.Tests.{cases, clash, refuse}
-use Rattle.whole.specs.Members.{in-head, in-tail, in-upto, upto-in, mem-those, mem-append}
-use Rattle.whole.specs.Masks.{these, from-low, mem-these, bit-less, bit-or, bit-single, bit-none, those-ext, these-none}
+use Rattle.whole.specs.Members.{in-upto, upto-in, mem-those, mem-append}
+use Rattle.whole.specs.Masks.{these, mem-these, bit-less, bit-or, bit-single, bit-none, those-ext, these-end}
+use Rattle.whole.specs.Those.{those-upto, those-none}
 use Rattle.small_block.specs.Held.{nearBy}
 
 -- a graph of which only the edges and the states count
@@ -74,63 +72,17 @@ marks-no p c m h y k b = h k b ∙ cases (eqb k c)
     rw (le-ltb k c (omega arith), lt-ltb k (c + 1) (omega arith)) (sym (ap p q ∙ y)))
     (λ t. ap (λ (z : Bool). z && p k) (below-next k c (eqb-false k c t)))
 
--- 0, 1, .. cut in two
-from-split : (k a b : ℕ) → from k (a + b) ≡ from k a ++ from (k + a) b
-unfolding from
-from-split k zero b = ap (from k) plain ∙ ap (λ (j : ℕ). from j b) stay
-  where
-    plain : zero + b ≡ b
-    plain = omega arith
-
-    stay : k ≡ k + zero
-    stay = omega arith
-from-split k (suc a) b = ap (from k) up ∙ ap (λ (xs : List ℕ). k ∷ xs) (from-split (suc k) a b ∙ ap (λ (j : ℕ). from (suc k) a ++ from j b) shift)
-  where
-    up : suc a + b ≡ suc (a + b)
-    up = omega arith
-
-    shift : suc k + a ≡ k + suc a
-    shift = omega arith
-
-those-append : (p : ℕ → Bool) (xs ys : List ℕ) → those p (xs ++ ys) ≡ those p xs ++ those p ys
-unfolding those
-those-append p [] ys = refl
-those-append p (x ∷ xs) ys = go (p x) (those-append p xs ys)
-  where
-    go : (b : Bool) → those p (xs ++ ys) ≡ those p xs ++ those p ys → cond b (x ∷ those p (xs ++ ys)) (those p (xs ++ ys)) ≡ cond b (x ∷ those p xs) (those p xs) ++ those p ys
-    go true r = ap (λ (zs : List ℕ). x ∷ zs) r
-    go false r = r
-
-those-none : (p : ℕ → Bool) (xs : List ℕ) → ((k : ℕ) → mem k xs ≡ true → p k ≡ false) → those p xs ≡ []
-unfolding those
-those-none p [] h = refl
-those-none p (x ∷ xs) h = ap (λ (b : Bool). cond b (x ∷ those p xs) (those p xs)) (h x (in-head x xs)) ∙ those-none p xs (λ k m. h k (in-tail k x xs m))
-
 -- a mask that marks those below n that pass lists them
 pub marks-list : (p : ℕ → Bool) (n m : ℕ) → n ≤ 64 → Marks p n m → these m ≡ those p (upto n)
 unfolding these
 marks-list p n m l h =
     those-ext (λ k. bit m k) (λ k. ltb k n && p k) (upto 64) (λ k t. h k (upto-in k 64 t))
-    ∙ ap (λ (c : ℕ). those (λ k. ltb k n && p k) (from 0 c)) whole
-    ∙ ap (those (λ k. ltb k n && p k)) (from-split 0 n (64 - n))
-    ∙ those-append (λ k. ltb k n && p k) (from 0 n) (from (0 + n) (64 - n))
-    ∙ ap₂ (λ (xs ys : List ℕ). xs ++ ys)
-    (those-ext (λ k. ltb k n && p k) p (from 0 n) (λ k t. ap (λ (b : Bool). b && p k) (lt-ltb k n (upto-in k n t))))
-    (those-none (λ k. ltb k n && p k) (from (0 + n) (64 - n)) (λ k t. ap (λ (b : Bool). b && p k) (le-ltb k n (omega (arith, from-low k (0 + n) (64 - n) t)))))
-    ∙ append-nil (those p (from 0 n))
+    ∙ ap (λ (c : ℕ). those (λ k. ltb k n && p k) (upto c)) whole
+    ∙ those-upto (λ k. ltb k n && p k) n (64 - n) (λ k a t. ap (λ (b : Bool). b && p k) (le-ltb k n a))
+    ∙ those-ext (λ k. ltb k n && p k) p (upto n) (λ k t. ap (λ (b : Bool). b && p k) (lt-ltb k n (upto-in k n t)))
   where
     whole : 64 ≡ n + (64 - n)
     whole = omega arith
-
--- what the code's test of a weight says; a signed local is its bits
-pub zero-no : (z : ℤ) → (ofZ w64 z ≡ 0 → ⊥) → not (isZeroZ z) ≡ true
-zero-no (pos zero) h = absurd (h refl)
-zero-no (pos (suc n)) h = ap not (ne-eqb (suc n) 0 (λ e. omega arith))
-zero-no (negsuc n) h = refl
-
-pub zero-yes : (z : ℤ) → mag z < 2 ^ 63 → ofZ w64 z ≡ 0 → not (isZeroZ z) ≡ false
-zero-yes (pos n) f h = ap (λ (k : ℕ). not (isZeroZ (pos k))) h
-zero-yes (negsuc n) f h = absurd (omega arith)
 
 -- the masks of all decisions list their neighbours
 abbrev pub joinedBy : List ℤ → ℕ → ℕ → Bool
@@ -144,8 +96,8 @@ tables n edges states masks le lm h = fun-ext (λ i. go i (decLt i 64))
     go : (i : ℕ) → Dec (i < 64) → these (getD masks i 0) ≡ those (joinedBy edges i) (upto n)
     go i (yes l) = h i l
     go i (no l) =
-        ap these (List·getD-eq-default masks 0 (omega (arith, lm))) ∙ these-none
-        ∙ sym (those-none (joinedBy edges i) (upto n) (λ k t. ap (λ (z : ℤ). not (isZeroZ z)) (List·getD-eq-default edges (pos 0) (omega (arith, le)))))
+        these-end (getD masks i 0) (List·getD-eq-default masks 0 (omega (arith, lm)))
+        ∙ sym (those-none (joinedBy edges i) n (λ k t. ap (λ (z : ℤ). not (isZeroZ z)) (List·getD-eq-default edges (pos 0) (omega (arith, le)))))
 
 -- one more row
 pub rows-more : (edges : List ℤ) (n : ℕ) (r : List ℕ) (i m : ℕ) → i < length r → ((k : ℕ) → k < i → these (getD r k 0) ≡ those (joinedBy edges k) (upto n))

@@ -5,12 +5,12 @@ use mathlib.Core.List.{List, [], _∷_, _++_, append-nil, append-assoc}
 use mathlib.Core.Logic.{_≢_}
 use Prim.Native.Nat.{ℕ, zero, suc, _+_, _-_, _^_, _<_, _≤_}
 use native.Mathlib.Omega.{arith}
-use native.Mathlib.Numerals.{add-one}
 use lib.Bits.{bitAnd}
 use lib.Count.{trailingZeros}
 use lib.ListN.{getD}
 use borrow.Author.Tests.{eq-eqb, ne-eqb}
-use Rattle.whole.specs.Masks.{these, these-step, these-none}
+use Rattle.whole.specs.Masks.{these, these-step, these-end}
+use Rattle.whole.specs.Those.{from-more, from-end}
 use Rattle.whole.specs.Words.{from, upto, mem, those}
 use Rattle.whole.specs.Tests.{refuse, clash}
 use Rattle.whole.specs.Members.{in-append, in-cons}
@@ -50,12 +50,12 @@ module _ (sw : ℕ) (g : Graph) (i : ℕ) where
 -- ---- the two loops: over the decisions from i on, and over those of a mask
 module _ (sw : ℕ) (g : Graph) where
   pub join-turn : (n i : ℕ) (q r : List ℕ) → i < n → r ≡ turn sw g q i → join sw g (from i (n - i)) q ≡ join sw g (from (i + 1) (n - (i + 1))) r
-  unfolding join from
-  join-turn n i q r h e = let d : n - i ≡ suc (n - (i + 1)) = omega arith in rw (d, add-one, e)
+  unfolding join
+  join-turn n i q r h e = rw (from-more i n h, e)
 
   pub join-end : (n i : ℕ) (q : List ℕ) → n ≤ i → join sw g (from i (n - i)) q ≡ q
-  unfolding join from
-  join-end n i q h = let d : n - i ≡ 0 = omega arith in rw d
+  unfolding join
+  join-end n i q h = rw (from-end i n h)
 
   pub join-next : (m : ℕ) (q r : List ℕ) → m ≢ 0 → m < 2 ^ 64 → r ≡ turn sw g q (trailingZeros 64 m) → join sw g (these m) q ≡ join sw g (these (bitAnd m (m - 1))) r
   unfolding join
@@ -63,7 +63,7 @@ module _ (sw : ℕ) (g : Graph) where
 
   pub join-done : (m : ℕ) (q : List ℕ) → m ≡ 0 → join sw g (these m) q ≡ q
   unfolding join
-  join-done m q e = rw (e, these-none)
+  join-done m q e = rw (these-end m e)
 
   -- a pass's queue is what joins an empty one, ascending: nobody comes twice
   join-from : (c k : ℕ) (q : List ℕ) → ((j : ℕ) → mem j q ≡ true → j < k) → join sw g (from k c) q ≡ q ++ those (λ i. eligible sw g i) (those (λ i. active g i) (from k c))

@@ -1,12 +1,15 @@
--- Comparisons: a test's two outcomes, the lesser of two numbers, the lesser of a number and 0.
+-- Comparisons: a test's two outcomes, the lesser of two numbers, the lesser of a number and 0, the test for 0.
 -- Assumes nothing.
 use mathlib.Core.Path.{_≡_, refl}
-use mathlib.Core.Bool.{Bool, true, false, cond}
-use Prim.Native.Nat.{_≤_}
+use mathlib.Core.Bool.{Bool, true, false, cond, not}
+use Prim.Native.Nat.{zero, suc, _^_, _<_, _≤_}
 use native.Mathlib.Omega.{arith}
-use lib.IntN.{ℤ, pos, _+ℤ_}
-use lib.Signed.{ltZ, _≤ℤ_}
-use Rattle.whole.specs.Words.{below0, above0}
+use lib.IntN.{ℤ, pos, negsuc, _+ℤ_}
+use lib.Signed.{ltZ, mag, _≤ℤ_}
+use mir.Syntax.{w64}
+use mir.Val.{ofZ}
+use borrow.Author.Tests.{eq-eqb, ne-eqb}
+use Rattle.whole.specs.Words.{isZeroZ, below0, above0}
 use Rattle.whole.specs.Parts.{∣_∣}
 use Rattle.whole.specs.Ints.{ints, zarith}
 
@@ -45,6 +48,16 @@ below0-abs z = lt-ind z (pos 0) (λ t. ∣ cond t z (pos 0) ∣ ≤ ∣ z ∣) (
 
 pub above0-abs : (z : ℤ) → ∣ above0 z ∣ ≤ ∣ z ∣
 above0-abs z = lt-ind z (pos 0) (λ t. ∣ cond t (pos 0) z ∣ ≤ ∣ z ∣) (λ e. omega arith) (λ e. omega arith)
+
+-- what the code's test of a weight for 0 says: a signed local is its bits
+pub zero-not : (z : ℤ) → (ofZ w64 z ≡ 0 → ⊥) → not (isZeroZ z) ≡ true
+zero-not (pos zero) h = absurd (h refl)
+zero-not (pos (suc n)) h = rw (ne-eqb (suc n) 0 (λ q. omega arith))
+zero-not (negsuc n) h = refl
+
+pub zero-is : (z : ℤ) → mag z < 2 ^ 63 → ofZ w64 z ≡ 0 → not (isZeroZ z) ≡ false
+zero-is (pos n) f h = rw (eq-eqb n 0 h)
+zero-is (negsuc n) f h = absurd (omega arith)
 
 -- the order's laws, each a call of the tactic: write the call rather than cite them
 pub ≤ℤ-trans : {a b c : ℤ} → a ≤ℤ b → b ≤ℤ c → a ≤ℤ c

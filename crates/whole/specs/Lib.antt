@@ -8,7 +8,8 @@ pub mod Quad
 pub mod Calls
 pub mod Tests
 pub mod Lists
-pub mod Pigeon
+pub mod Different
 pub mod Members
+pub mod Pigeon
 pub mod Those
 pub mod Masks

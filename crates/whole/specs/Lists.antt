@@ -1,10 +1,10 @@
 -- Laws of lists that are filled from the front.
 -- Assumes nothing.
 use Prim.Native.Nat.{ℕ, zero, suc, _+_, _-_, _<_, _≤_}
-use mathlib.Core.Path.{_≡_, refl, ap, sym, _∙_}
-use mathlib.Core.List.{List, [], _∷_, _++_, map, append-nil, append-assoc}
+use mathlib.Core.Path.{_≡_, refl, ap, ap₂, sym, _∙_}
+use mathlib.Core.List.{List, [], _∷_, _++_, map, append-nil}
 use native.Mathlib.Numerals.{add-one}
-use native.Mathlib.Nat.{add-zero, add-suc}
+use native.Mathlib.Nat.{add-zero}
 use native.Mathlib.Omega.{arith}
 use lib.ListN.{length, getD, set, drop, replicate, length-append, List·getD-append}
 use native.Mathlib.Decide.{ℕ-discrete}
@@ -51,6 +51,11 @@ drop-replicate zero m a h = let e : m ≡ m - 0 = omega arith in ap (λ (k : ℕ
 drop-replicate (suc n) zero a h = absurd (omega arith)
 drop-replicate (suc n) (suc m) a h = let e : m - n ≡ suc m - suc n = omega arith in drop-replicate n m a (omega arith) ∙ ap (λ (k : ℕ). replicate k a) e
 
+pub tab-same : {A : Type 0} (f g : ℕ → A) (n : ℕ) → ((k : ℕ) → k < n → f k ≡ g k) → tab f n ≡ tab g n
+unfolding tab
+tab-same f g zero h = refl
+tab-same {A} f g (suc n) h = ap₂ (λ (t : List A) (x : A). t ++ x ∷ []) (tab-same f g n (λ k l. h k (omega arith))) (h n (omega arith))
+
 -- a constant, n times
 pub tab-replicate : {A : Type 0} (a : A) (n : ℕ) → tab (λ k. a) n ≡ replicate n a
 unfolding tab
@@ -60,6 +65,12 @@ tab-replicate a (suc n) = rw (tab-replicate a n) (snoc n)
     snoc : (n : ℕ) → replicate n a ++ (a ∷ []) ≡ replicate (suc n) a
     snoc zero = refl
     snoc (suc n) = ap (λ t. a ∷ t) (snoc n)
+
+-- at each place, and past the end
+pub replicate-at : {A : Type 0} (a : A) (n k : ℕ) → getD (replicate n a) k a ≡ a
+replicate-at a zero k = refl
+replicate-at a (suc n) zero = refl
+replicate-at a (suc n) (suc k) = replicate-at a n k
 
 pub tab-at : {A : Type 0} (f : ℕ → A) (n j : ℕ) (d : A) → j < n → getD (tab f n) j d ≡ f j
 unfolding tab

@@ -1,23 +1,23 @@
 -- Decisions as the bits of a 64-bit mask: each operation bit by bit, and the lowest bit taken off.
 -- Assumes nothing.
-use mathlib.Core.Path.{_≡_, refl, sym, ap, ap₂, _∙_, subst}
+use mathlib.Core.Path.{_≡_, refl, sym, ap, ap₂, _∙_}
 use mathlib.Core.Bool.{Bool, true, false, cond, not, _&&_, _||_}
 use mathlib.Core.List.{List, [], _∷_, _++_, append-assoc}
 use mathlib.Core.Logic.{_≢_}
 use Prim.Native.Nat.{ℕ, zero, suc, _+_, _*_, _-_, _/_, _%_, _^_, _<_, _≤_, min, max}
 use native.Mathlib.Omega.{arith}
-use native.Mathlib.Nat.{pow-suc, mod-lt, min-zero, zero-min, max-zero, zero-max, not-suc-le-zero, mul-comm, div-div-eq-div-mul, div-one}
+use native.Mathlib.Nat.{pow-suc, mod-eq-of-lt, one-mul, mul-comm, div-div-eq-div-mul, div-one}
 use native.Mathlib.Numerals.{add-one}
-use lib.Dec.{T, eqb, ltb, eqb·suc-suc}
+use lib.Dec.{eqb, eqb·suc-suc}
 use lib.ListN.{length, take, set}
 use lib.Seq.{take-suc-set}
-use lib.Bits.{bitAnd, bitOr, bitXor, differ, and-step, or-step, xor-step, and-shr, or-shr, xor-shr, and-self, and-le-l, and-le-r}
+use lib.Bits.{bitAnd, bitOr, bitXor, differ, and-step, or-step, xor-step, and-shr, or-shr, xor-shr, and-self, and-le-r}
 use lib.Count.{trailingZeros, under}
-use lib.Pow.{pow-pos, shr-shr}
-use borrow.Author.Tests.{eqb-true, eqb-false, eq-eqb, ne-eqb, lt-ltb, le-ltb}
+use lib.Pow.{pow-lt}
+use borrow.Author.Tests.{eqb-true, eqb-false, ne-eqb}
 use Rattle.whole.specs.Words.{odd, bit, from, upto, mem, those, some}
-use Rattle.whole.specs.Tests.{cases, clash, refuse, or-true}
-use Rattle.whole.specs.Members.{to-those, some-none, some-true, in-head, in-tail, mem-those, in-those, in-upto, upto-in, apart-those, apart-upto}
+use Rattle.whole.specs.Tests.{cases, clash, refuse}
+use Rattle.whole.specs.Members.{to-those, some-none, some-true, in-head, in-tail, mem-those, in-those, from-in, in-upto, upto-in, apart-those, apart-upto}
 use Rattle.whole.specs.Pigeon.{Apart}
 
 -- the decisions of a mask, ascending
@@ -112,6 +112,13 @@ bit-single (suc c) (suc k) = bit-half (2 ^ suc c) k ∙ ap (λ (z : ℕ). bit z 
     halved : 2 ^ c * 2 / 2 ≡ 2 ^ c
     halved = omega arith
 
+-- the same as the code makes it, 1 << c
+pub single-is : (c : ℕ) → c < 64 → 1 * 2 ^ c % 2 ^ 64 ≡ 2 ^ c
+single-is c l = ap (λ (z : ℕ). z % 2 ^ 64) (one-mul (2 ^ c)) ∙ mod-eq-of-lt (pow-lt l)
+
+pub bit-shifted : (c k : ℕ) → c < 64 → bit (1 * 2 ^ c % 2 ^ 64) k ≡ eqb k c
+bit-shifted c k l = ap (λ (z : ℕ). bit z k) (single-is c l) ∙ bit-single c k
+
 -- ---- the decisions of a mask
 pub those-ext : (p q : ℕ → Bool) (xs : List ℕ) → ((k : ℕ) → mem k xs ≡ true → p k ≡ q k) → those p xs ≡ those q xs
 unfolding those
@@ -152,20 +159,13 @@ unfoldable places : ℕ → ℕ → ℕ → List ℕ
 places p zero m = []
 places p (suc f) m = cond (odd m) (p ∷ places (suc p) f (m / 2)) (places (suc p) f (m / 2))
 
-pub from-low : (j k c : ℕ) → mem j (from k c) ≡ true → k ≤ j
-unfolding from mem
-from-low j k zero h = clash h refl
-from-low j k (suc c) h = or-true (eqb j k) (mem j (from (suc k) c)) h
-    (λ e. let d : j ≡ k = eqb-true j k e in omega arith)
-    (λ e. let r = from-low j (suc k) c e in omega arith)
-
 places-those : (p f m : ℕ) → places p f m ≡ those (λ j. bit m (j - p)) (from p f)
 unfolding places those from
 places-those p zero m = refl
 places-those p (suc f) m =
     ap₂ (λ (b : Bool) (ys : List ℕ). cond b (p ∷ ys) ys) first
     (places-those (suc p) f (m / 2) ∙ those-ext (λ j. bit (m / 2) (j - suc p)) (λ j. bit m (j - p)) (from (suc p) f)
-    (λ j h. let l : suc p ≤ j = from-low j (suc p) f h in sym (ap (bit m) (up j l) ∙ bit-half m (j - suc p))))
+    (λ j h. let l : suc p ≤ j = from-in j (suc p) f h .0 in sym (ap (bit m) (up j l) ∙ bit-half m (j - suc p))))
   where
     first : odd m ≡ bit m (p - p)
     first = sym (ap (bit m) none ∙ bit-first m)
@@ -190,6 +190,9 @@ places-none p (suc f) = places-none (suc p) f
 
 pub these-none : these 0 ≡ []
 these-none = these-places 0 ∙ places-none 0 64
+
+pub these-end : (m : ℕ) → m ≡ 0 → these m ≡ []
+these-end m e = ap these e ∙ these-none
 
 -- m & (m − 1) is m without its lowest bit
 places-step : (p f m : ℕ) → 0 < m → m < 2 ^ f → places p f m ≡ (p + trailingZeros f m) ∷ places p f (bitAnd m (m - 1))
@@ -242,7 +245,7 @@ these-step m l h = these-places m ∙ places-step 0 64 m l h ∙ ap₂ (λ (x : 
     plain : 0 + trailingZeros 64 m ≡ trailingZeros 64 m
     plain = omega arith
 
--- ---- one turn of the loop that writes a mask's decisions
+-- ---- one turn of a loop over a mask's decisions
 module _ (m : ℕ) (l : m ≢ 0) (h : m < 2 ^ 64) where
   above : 0 < m
   above = omega arith
@@ -250,14 +253,33 @@ module _ (m : ℕ) (l : m ≢ 0) (h : m < 2 ^ 64) where
   pub rest-less : bitAnd m (m - 1) < m
   rest-less = omega (arith, and-le-r m (m - 1))
 
+  pub first-in : mem (trailingZeros 64 m) (these m) ≡ true
+  first-in = ap (mem (trailingZeros 64 m)) (these-step m above h) ∙ in-head (trailingZeros 64 m) (these (bitAnd m (m - 1)))
+
   pub these-length : length (these m) ≡ suc (length (these (bitAnd m (m - 1))))
   these-length = ap length (these-step m above h)
 
+  -- they are written down
   pub write-turn : (order : List ℕ) (at : ℕ) → at < length order
       → take (at + 1) (set order at (trailingZeros 64 m)) ++ these (bitAnd m (m - 1)) ≡ take at order ++ these m
   write-turn order at b =
       rw (add-one, take-suc-set order at (trailingZeros 64 m) b)
       (append-assoc (take at order) (trailingZeros 64 m ∷ []) (these (bitAnd m (m - 1))) ∙ ap (λ (xs : List ℕ). take at order ++ xs) (sym (these-step m above h)))
+
+-- its lowest decision, and the others
+pub record Turn (m : ℕ) : Type 0 where
+  pub parts : these m ≡ trailingZeros 64 m ∷ these (bitAnd m (m - 1))
+  pub below : trailingZeros 64 m < 64
+  pub less : bitAnd m (m - 1) < m
+  pub smaller : bitAnd m (m - 1) < 2 ^ 64
+
+pub turn : (m : ℕ) → m ≢ 0 → m < 2 ^ 64 → Turn m
+turn m d h = record {
+  parts = these-step m (omega arith) h;
+  below = these-below m (trailingZeros 64 m) (first-in m d h);
+  less = rest-less m d h;
+  smaller = omega (arith, rest-less m d h);
+}
 
 -- ---- a mask of those that pass says whether some does
 some-of : (p : ℕ → Bool) (xs : List ℕ) → those p xs ≡ [] → some p xs ≡ false
@@ -269,12 +291,9 @@ some-of p xs e = some-none p xs (λ k m. refuse (p k) (λ q. clash (to-those p k
 
 pub some-mask : (m : ℕ) (p : ℕ → Bool) (xs : List ℕ) → m < 2 ^ 64 → these m ≡ those p xs → some p xs ≡ not (eqb m 0)
 some-mask m p xs h e = cases (eqb m 0)
-    (λ z. some-of p xs (sym e ∙ ap these (eqb-true m 0 z) ∙ these-none) ∙ sym (ap not z))
+    (λ z. some-of p xs (sym e ∙ these-end m (eqb-true m 0 z)) ∙ sym (ap not z))
     (λ z.
     let d : m ≢ 0 = eqb-false m 0 z in
-    let first : mem (trailingZeros 64 m) (those p xs) ≡ true = ap (mem (trailingZeros 64 m)) (sym e ∙ these-step m (omega arith) h) ∙ in-head (trailingZeros 64 m) (these (bitAnd m (m - 1))) in
+    let first : mem (trailingZeros 64 m) (those p xs) ≡ true = ap (mem (trailingZeros 64 m)) (sym e) ∙ first-in m d h in
     let q = in-those p (trailingZeros 64 m) xs first in
     some-true p (trailingZeros 64 m) xs (q .0) (q .1) ∙ sym (ap not z))
-
-pub first-in : (m : ℕ) → m ≢ 0 → m < 2 ^ 64 → mem (trailingZeros 64 m) (these m) ≡ true
-first-in m d h = ap (mem (trailingZeros 64 m)) (these-step m (omega arith) h) ∙ in-head (trailingZeros 64 m) (these (bitAnd m (m - 1)))

@@ -1,18 +1,19 @@
 -- Lists of decisions: membership, those that pass a test, and different decisions.
 -- Assumes nothing.
-use mathlib.Core.Path.{_≡_, refl, sym, ap, ap₂, _∙_, subst}
-use mathlib.Core.Bool.{Bool, true, false, cond, not, _&&_, _||_}
-use mathlib.Core.List.{List, [], _∷_, _++_, map}
+use mathlib.Core.Path.{_≡_, refl, sym, ap, _∙_, subst}
+use mathlib.Core.Bool.{Bool, true, false, cond, _&&_, _||_}
+use mathlib.Core.List.{List, [], _∷_, _++_}
 use mathlib.Core.Logic.{_≢_}
 use Prim.Native.Nat.{ℕ, zero, suc, _+_, _<_, _≤_}
 use native.Mathlib.Omega.{arith}
 use native.Mathlib.Nat.{not-suc-le-zero}
-use lib.Dec.{T, eqb}
-use lib.ListN.{length, getD}
+use native.Mathlib.Decide.{decLt}
+use lib.Dec.{eqb}
+use lib.ListN.{length, getD, List·getD-eq-default}
 use borrow.Author.Tests.{eqb-true, eqb-false, eq-eqb, ne-eqb}
 use Rattle.whole.specs.Words.{from, upto, mem, those, some}
-use Rattle.whole.specs.Tests.{cases, clash, or-true, or-false, or-left, or-right, or-none, and-true, and-both, not-off, not-on, off-not, on-not, refuse, same-test}
-use Rattle.whole.specs.Pigeon.{Apart, none, one}
+use Rattle.whole.specs.Tests.{cases, clash, or-true, or-false, or-left, or-right, or-none, and-true, and-both, refuse}
+use Rattle.whole.specs.Different.{Apart, none, one}
 
 -- ---- membership
 pub mem-append : (k : ℕ) (xs ys : List ℕ) → mem k (xs ++ ys) ≡ (mem k xs || mem k ys)
@@ -99,7 +100,7 @@ in-from j k (suc c) h l = cases (eqb j k)
     (λ e. or-left (mem j (from (suc k) c)) e)
     (λ e. or-right (eqb j k) (let d : j ≢ k = eqb-false j k e in in-from j (suc k) c (omega arith) (omega arith)))
 
-from-in : (j k c : ℕ) → mem j (from k c) ≡ true → (k ≤ j) × (j < k + c)
+pub from-in : (j k c : ℕ) → mem j (from k c) ≡ true → (k ≤ j) × (j < k + c)
 unfolding from mem
 from-in j k zero h = clash h refl
 from-in j k (suc c) h = or-true (eqb j k) (mem j (from (suc k) c)) h
@@ -150,6 +151,17 @@ in-at (x ∷ xs) (suc k) l = in-tail (getD xs k 0) x xs (in-at xs k (omega arith
 
 pub apart-at : (n : ℕ) (xs : List ℕ) (k : ℕ) → Apart n xs → k < length xs → getD xs k 0 < n
 apart-at n xs k a l = apart-below (getD xs k 0) a (in-at xs k l)
+
+-- a decision of a list, or 0 past its end
+pub low-at : (n : ℕ) (xs : List ℕ) (k : ℕ) → Apart n xs → n ≤ 64 → getD xs k 0 < 64
+low-at n xs k a h = go (decLt k (length xs))
+  where
+    past : (k < length xs → ⊥) → length xs ≤ k
+    past l = omega arith
+
+    go : Dec (k < length xs) → getD xs k 0 < 64
+    go (yes l) = omega (arith, apart-at n xs k a l)
+    go (no l) = omega (arith, List·getD-eq-default xs 0 (past l))
 
 pub apart-join : {n : ℕ} {xs : List ℕ} {ys : List ℕ} → Apart n xs → Apart n ys → ((k : ℕ) → mem k xs ≡ true → mem k ys ≡ false) → Apart n (xs ++ ys)
 apart-join none b h = b

@@ -1,6 +1,6 @@
 -- Loops over a range of numbers, and those of it that pass a test: one turn more, of what is left and of what has been gone through.
 -- Assumes nothing.
-use mathlib.Core.Path.{_≡_, refl, _∙_}
+use mathlib.Core.Path.{_≡_, refl, ap, _∙_}
 use mathlib.Core.Bool.{Bool, true, false, cond}
 use mathlib.Core.List.{List, [], _∷_, _++_, append-nil}
 use Prim.Native.Nat.{ℕ, zero, suc, _+_, _-_, _<_, _≤_}
@@ -34,7 +34,7 @@ module _ (p : ℕ → Bool) (n i : ℕ) where
   rest-end h = rw (from-end i n h)
 
 -- ---- what has been gone through
-from-last : (k c : ℕ) → from k (suc c) ≡ from k c ++ ((k + c) ∷ [])
+pub from-last : (k c : ℕ) → from k (suc c) ≡ from k c ++ ((k + c) ∷ [])
 unfolding from
 from-last k zero = let e : k + 0 ≡ k = omega arith in rw e
 from-last k (suc c) = let e : k + suc c ≡ suc k + c = omega arith in rw (e, ← from-last (suc k) c)
@@ -44,7 +44,7 @@ module _ (p : ℕ → Bool) where
   kept true x xs ys = refl
   kept false x xs ys = refl
 
-  those-append : (xs ys : List ℕ) → those p (xs ++ ys) ≡ those p xs ++ those p ys
+  pub those-append : (xs ys : List ℕ) → those p (xs ++ ys) ≡ those p xs ++ those p ys
   unfolding those
   those-append [] ys = refl
   those-append (x ∷ xs) ys = rw (those-append xs ys) (kept (p x) x (those p xs) (those p ys))
@@ -59,6 +59,17 @@ module _ (p : ℕ → Bool) where
   pub those-same : (k : ℕ) → p k ≡ false → those p (upto (k + 1)) ≡ those p (upto k)
   unfolding those
   those-same k h = those-last k ∙ rw (h, append-nil)
+
+  -- none passes from n on
+  pub those-upto : (n c : ℕ) → ((k : ℕ) → n ≤ k → k < n + c → p k ≡ false) → those p (upto (n + c)) ≡ those p (upto n)
+  those-upto n zero h = let e : n + 0 ≡ n = omega arith in ap (λ (k : ℕ). those p (upto k)) e
+  those-upto n (suc c) h =
+      let e : n + suc c ≡ n + c + 1 = omega arith in
+      ap (λ (k : ℕ). those p (upto k)) e ∙ those-same (n + c) (h (n + c) (omega arith) (omega arith)) ∙ those-upto n c (λ k l m. h k l (omega arith))
+
+  pub those-none : (n : ℕ) → ((k : ℕ) → k < n → p k ≡ false) → those p (upto n) ≡ []
+  unfolding those from
+  those-none n h = let e : n ≡ 0 + n = omega arith in ap (λ (k : ℕ). those p (upto k)) e ∙ those-upto 0 n (λ k l m. h k (omega arith))
 
   pub those-most : (n : ℕ) → length (those p (upto n)) ≤ n
   those-most n = pigeon n (apart-those p (apart-upto n))

@@ -7,12 +7,13 @@ use lib.ListN.{take}
 use lib.IntN.{ℤ}
 use mir.Syntax.{w64}
 use mir.Val.{SFits}
+use lib.Pow.{pow-mono}
 use Rattle.whole.specs.Ints.{ints, rd}
+use Rattle.whole.specs.Masks.{single-is}
 use Rattle.rules.specs.SmallBlock.{inner}
 use Rattle.block_minima.specs.Weights.{weights}
-use Rattle.block_minima.specs.Turns.{size-is}
 use Rattle.block_elimination.specs.Block.{Lowest}
-use Rattle.block_elimination.specs.BlockLaws.{fillings, lowest-none, lowest-more}
+use Rattle.block_elimination.specs.BlockLaws.{lowest-none, lowest-more}
 use Rattle.block_elimination.proofs.minima.Statement.{statement}
 use Rattle.block_elimination.proofs.minima.Tie as tie
 
@@ -33,7 +34,7 @@ shl-size c = omega (arith, c .pre .3)
 loop-holds : tie.Need-loop-holds Inv-loop μ-loop
 loop-holds c =
     let a = c .args in
-    (omega arith, size-is (a .width) (omega (arith, c .pre .3)), lowest-none (own (now (a .lin)) (now (a .edges)) (now (a .order)) (a .count) (now (a .out)) (a .width)) (a .count))
+    (omega arith, single-is (a .width) (omega (arith, c .pre .3)), lowest-none (own (now (a .lin)) (now (a .edges)) (now (a .order)) (a .count) (now (a .out)) (a .width)) (a .count))
 
 cheapest-mask-requires : tie.Need-cheapest-mask-requires Inv-loop μ-loop
 cheapest-mask-requires c κs = let s = c .before .before in s .pre
@@ -41,7 +42,7 @@ cheapest-mask-requires c κs = let s = c .before .before in s .pre
 -- in a turn
 module _ (c : tie.In-loop Inv-loop μ-loop) where
   room : c .before .loop .f < 4
-  room = omega (arith, fillings (c .before .before .args .width) (c .before .before .pre .3))
+  room = omega (arith, pow-mono {j = 2} (c .before .before .pre .3))
 
 mul-masks : tie.Need-mul-masks Inv-loop μ-loop
 mul-masks c = omega (arith, room (c .before .before))

@@ -13,7 +13,8 @@ use Rattle.whole.specs.Parts.{∣_∣}
 use Rattle.whole.specs.Ints.{ints, rd}
 use Rattle.rules.specs.SmallBlock.{inner, cheapest}
 use Rattle.block_minima.specs.Weights.{weights, Listed}
-use Rattle.block_minima.specs.Turns.{cheapest-next, size-is}
+use Rattle.block_minima.specs.Turns.{cheapest-next}
+use Rattle.whole.specs.Masks.{single-is}
 use Rattle.block_minima.specs.Bounds.{cost-size}
 use mathlib.Core.List.{List}
 use lib.Signed.{ltZ}
@@ -51,7 +52,7 @@ loop-holds : tie.Need-loop-holds Inv-loop μ-loop
 unfolding cheapest
 loop-holds c =
     let s = c .before in
-    let size = size-is (s .args .count) (omega (arith, s .pre .1 .few)) in
+    let size = single-is (s .args .count) (omega (arith, s .pre .1 .few)) in
     (omega arith, omega (arith, size, pow-pos (s .args .count)), size, refl, read s 0 (c .inner-cost .result) (c .inner-cost .ensures))
 
 inner-cost-requires-2 : tie.Need-inner-cost-requires-2 Inv-loop μ-loop
@@ -60,7 +61,7 @@ inner-cost-requires-2 c κs = c .before .before .before .pre
 add-m : tie.Need-add-m Inv-loop μ-loop
 add-m c =
     let s = c .before .before .before .before .before in
-    omega (arith, size-is (s .args .count) (omega (arith, s .pre .1 .few)), pow-lt {j = 64} (few64 (s .pre .1)))
+    omega (arith, single-is (s .args .count) (omega (arith, s .pre .1 .few)), pow-lt {j = 64} (few64 (s .pre .1)))
 
 loop-less : tie.Need-loop-less Inv-loop μ-loop
 loop-less c = omega arith

@@ -2,7 +2,7 @@ use Rattle.degree_three.proofs.Absorbing.{moebius-table, eliminated}
 use Rattle.low_degree.proofs.Laws.{read}
 use Rattle.low_degree.specs.Table.{stepFrom}
 use Rattle.low_degree.specs.TableLaws.{degree-few, table-asks, step-table}
-use Rattle.graph.proofs.Laws.{zero-is, zero-not}
+use Rattle.whole.specs.Cmp.{zero-is, zero-not}
 use Rattle.graph.specs.Held.{held}
 use Rattle.graph.specs.NearLaws.{near-below, near-inside}
 use Rattle.accepted.specs.Small.{Small, small-more}

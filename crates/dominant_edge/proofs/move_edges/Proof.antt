@@ -1,7 +1,6 @@
 use Rattle.dominant_edge.specs.Answer.{Gone}
-use Rattle.dominant_edge.proofs.Taking.{ended}
 use Rattle.dominant_edge.proofs.Giving.{move-cons, move-none, Keeps, keeps-begin, keeps-same, keeps-gain, at, weight, at-low, weight-small, weight-read, edge-fits, gives, passes-by}
-use Rattle.whole.specs.Masks.{these, rest-less}
+use Rattle.whole.specs.Masks.{these, these-end as ended, rest-less}
 use Rattle.rules.specs.DominantEdge.{move}
 use Rattle.rules.specs.Graph.{Graph, graph, addEdge}
 use Rattle.graph.specs.HeldLaws.{edge-gain}

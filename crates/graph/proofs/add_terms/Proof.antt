@@ -1,4 +1,4 @@
-use Rattle.graph.proofs.Laws.{weight-turn, terms-turn, terms-end}
+use Rattle.graph.proofs.Laws.{weight-rest, terms-turn, terms-end}
 use Rattle.graph.specs.Held.{Below}
 use Rattle.graph.specs.Shows.{Shows}
 use Rattle.rules.specs.Objective.{weightOf}
@@ -43,7 +43,7 @@ add-term-requires c κs =
     let s = c .before .before .before .before .before .before .before .before .before .before in
     let a = s .args in
     let f : SFits w64 (getD (now (a .term-weights)) (l .k) (pos 0)) = sfits-of (c .before .before .before .w .given) in
-    rw (rd f) (s .pre .2 .each (l .k) (omega arith), s .pre .3 .each (l .k) (omega arith), omega (arith, weight-turn (now (a .term-weights)) (l .k) (omega arith)))
+    rw (rd f) (s .pre .2 .each (l .k) (omega arith), s .pre .3 .each (l .k) (omega arith), omega (arith, weight-rest (now (a .term-weights)) (l .k)))
 
 loop-again : tie.Need-loop-again Inv-loop μ-loop
 loop-again c =
@@ -55,7 +55,7 @@ loop-again c =
     let j = getD (now (a .seconds)) (l .k) 0 in
     let m = ap natAbs (rd f) in (
       omega arith,
-      omega (arith, c .add-term .ensures .1, m, weight-turn (now (a .term-weights)) (l .k) (omega arith)),
+      omega (arith, c .add-term .ensures .1, m, weight-rest (now (a .term-weights)) (l .k)),
       λ n b ss.
           l .inv .2 n b ss
           ∙ terms-turn (now (a .firsts)) (now (a .seconds)) (now (a .term-weights)) (l .k) (graph n b (l .lin) (l .edges) ss) (omega arith) (s .pre .0) (s .pre .1)

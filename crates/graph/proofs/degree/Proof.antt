@@ -1,7 +1,8 @@
-use Rattle.graph.proofs.Laws.{zero-is, zero-not}
-use Rattle.graph.specs.NearLaws.{there, those-more, those-same}
+use Rattle.graph.specs.NearLaws.{there}
 use Rattle.rules.specs.Graph.{neighbours}
 use Rattle.whole.specs.Words.{from, upto, those}
+use Rattle.whole.specs.Those.{those-more, those-same}
+use Rattle.whole.specs.Cmp.{zero-is, zero-not}
 use lib.IntN.{pos}
 use lib.ListN.{length, getD, length-append}
 use denote.Ref.{now}

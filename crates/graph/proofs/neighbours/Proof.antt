@@ -1,6 +1,5 @@
-use Rattle.graph.proofs.Lowest.{first-below, others-low}
 use Rattle.graph.proofs.Nearing.{Nearing, nearing-begin, nearing-room, nearing-more, nearing-full, nearing-end}
-use Rattle.whole.specs.Masks.{rest-less}
+use Rattle.whole.specs.Masks.{Turn, turn}
 use Rattle.whole.specs.Ints.{rd}
 use borrow.Author.Needs.{needs, sfits-of}
 use mir.Val.{SFits}
@@ -25,9 +24,8 @@ abbrev μ-loop : tie.MeasureT-loop
 loop-holds : tie.Need-loop-holds Inv-loop μ-loop
 loop-holds c = (omega arith, refl, refl, nearing-begin (now (c .before .args .edges)) (c .before .args .i) (c .mask-at .result))
 
--- the decision of a turn
-below : (c : tie.In-loop Inv-loop μ-loop) → trailingZeros 64 (c .before .loop .rest) < 64
-below c = first-below (c .before .loop .rest) (c .loop-test .taken) (c .before .loop .inv .0)
+at : (t : tie.In-loop Inv-loop μ-loop) → Turn (t .before .loop .rest)
+at t = turn (t .before .loop .rest) (t .loop-test .taken) (t .before .loop .inv .0)
 
 add-r : tie.Need-add-r Inv-loop μ-loop
 add-r c =
@@ -37,7 +35,7 @@ add-r c =
     omega (arith, nearing-room (now (a .edges)) (a .i) (t .before .before .mask-at .result) (l .r) (l .rest) (l .inv .3) (t .loop-test .taken) (l .inv .0))
 
 loop-less : tie.Need-loop-less Inv-loop μ-loop
-loop-less c = rest-less (c .before .before .loop .rest) (c .before .loop-test .taken) (c .before .before .loop .inv .0)
+loop-less c = at (c .before) .less
 
 loop-again : tie.Need-loop-again Inv-loop μ-loop
 loop-again c =
@@ -46,7 +44,7 @@ loop-again c =
     let a = t .before .before .before .args in
     let e = now (a .edges) in
     let m = t .before .before .mask-at .result in
-    let low = others-low (l .rest) (t .loop-test .taken) (l .inv .0) in
+    let low = at t .smaller in
     ⊎-elim
     (λ w.
     let f : SFits w64 (getD e (64 * a .i + trailingZeros 64 (l .rest)) (pos 0)) = sfits-of (w .1 .given) in
@@ -74,12 +72,12 @@ neighbours-spec =
     μ-loop
     (λ c κs. search needs)
     loop-holds
-    (λ c. omega (arith, below (c .before)))
-    (λ c. omega (arith, below (c .before)))
-    (λ c. omega (arith, below (c .before)))
-    (λ c. omega (arith, below (c .before)))
-    (λ c. omega (arith, below (c .before)))
-    (λ c. omega (arith, below (c .before .before)))
+    (λ c. omega (arith, at (c .before) .below))
+    (λ c. omega (arith, at (c .before) .below))
+    (λ c. omega (arith, at (c .before) .below))
+    (λ c. omega (arith, at (c .before) .below))
+    (λ c. omega (arith, at (c .before) .below))
+    (λ c. omega (arith, at (c .before .before) .below))
     (λ c. search needs)
     (λ c. search needs)
     (λ c. search needs)

@@ -1,11 +1,12 @@
 use native.Mathlib.Nat.{sub-zero}
-use Rattle.graph.proofs.Laws.{weight-rest, lin-gain, gain-fits, zero-is, zero-not, spread-more, spread-same, spread-end}
+use Rattle.graph.proofs.Laws.{weight-rest, lin-gain, gain-fits, spread-more, spread-same, spread-end}
 use Rattle.accepted.specs.Mass.{weight-gain}
 use Rattle.rules.specs.Objective.{weightOf}
 use Rattle.rules.specs.Fixing as rule
 use Rattle.rules.specs.Graph.{Graph, graph, edge}
 use Rattle.whole.specs.Words.{isZeroZ, from, those}
 use Rattle.whole.specs.Ints.{rd}
+use Rattle.whole.specs.Cmp.{zero-is, zero-not}
 use borrow.Author.Needs.{needs, sfits-of}
 use mir.Val.{SFits}
 use mir.Syntax.{w64}

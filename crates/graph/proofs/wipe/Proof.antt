@@ -1,7 +1,6 @@
 use Rattle.rules.specs.Graph.{clear}
-use Rattle.whole.specs.Masks.{rest-less}
+use Rattle.whole.specs.Masks.{Turn, turn}
 use Rattle.graph.specs.Shows.{Shows}
-use Rattle.graph.proofs.Lowest.{first-below, others-low}
 use Rattle.graph.proofs.Wiping.{wipe-begin, wipe-turn, wipe-end}
 use native.Mathlib.Omega.{arith}
 use mathlib.Core.Path.{_≡_, refl, _∙_}
@@ -9,7 +8,6 @@ use Prim.Native.Nat.{ℕ, _≤_, _^_, _<_}
 use borrow.Author.Needs.{needs}
 use denote.Ref.{now}
 use lib.ListN.{set}
-use lib.Count.{trailingZeros}
 use Rattle.graph.proofs.wipe.Statement.{statement}
 use Rattle.graph.proofs.wipe.Tie as tie
 
@@ -26,14 +24,11 @@ loop-holds c =
     let a = c .before .before .args in
     (omega arith, λ n h s. (wipe-begin n (now (a .edges)) (now (a .masks)) (a .i) (c .mask-at .result) s (c .mask-at .ensures), refl))
 
--- the decision of a turn
-below : (c : tie.In-loop Inv-loop μ-loop) → trailingZeros 64 (c .before .loop .rest) < 64
-below c = first-below (c .before .loop .rest) (c .loop-test .taken) (c .before .loop .inv .0)
+at : (t : tie.In-loop Inv-loop μ-loop) → Turn (t .before .loop .rest)
+at t = turn (t .before .loop .rest) (t .loop-test .taken) (t .before .loop .inv .0)
 
 loop-less : tie.Need-loop-less Inv-loop μ-loop
-loop-less c =
-    let t = c .before .before in
-    rest-less (t .before .loop .rest) (t .loop-test .taken) (t .before .loop .inv .0)
+loop-less c = at (c .before .before) .less
 
 loop-again : tie.Need-loop-again Inv-loop μ-loop
 loop-again c =
@@ -41,7 +36,7 @@ loop-again c =
     let l = t .before .loop in
     let a = t .before .before .before .before .args in
     let m = c .marked in (
-      others-low (l .rest) (t .loop-test .taken) (l .inv .0),
+      at t .smaller,
       λ n h s.
           let w = wipe-turn (l .rest) (t .loop-test .taken) (l .inv .0) n (l .edges) (l .masks) (a .i) (m .result) (l .inv .1 n h s .0) (t .before .before .before .before .pre) (omega arith) (m .ensures) in
           (w .0, w .1 ∙ l .inv .1 n h s .1),
@@ -63,20 +58,20 @@ wipe-spec =
     μ-loop
     (λ c κs. search needs)
     loop-holds
-    (λ c. omega (arith, below c))
-    (λ c. omega (arith, below c))
-    (λ c. omega (arith, below c))
-    (λ c. omega (arith, below c))
-    (λ c. omega (arith, below c))
-    (λ c. omega (arith, below c))
-    (λ c. omega (arith, below c))
-    (λ c. omega (arith, below c))
-    (λ c. omega (arith, below c))
-    (λ c. omega (arith, below c))
-    (λ c. omega (arith, below c))
+    (λ c. omega (arith, at c .below))
+    (λ c. omega (arith, at c .below))
+    (λ c. omega (arith, at c .below))
+    (λ c. omega (arith, at c .below))
+    (λ c. omega (arith, at c .below))
+    (λ c. omega (arith, at c .below))
+    (λ c. omega (arith, at c .below))
+    (λ c. omega (arith, at c .below))
+    (λ c. omega (arith, at c .below))
+    (λ c. omega (arith, at c .below))
+    (λ c. omega (arith, at c .below))
     (λ c κs. search needs)
-    (λ c. omega (arith, below (c .before .before)))
-    (λ c. omega (arith, below (c .before .before)))
+    (λ c. omega (arith, at (c .before .before) .below))
+    (λ c. omega (arith, at (c .before .before) .below))
     (λ c. search needs)
     loop-less
     loop-again

@@ -6,9 +6,9 @@ use borrow.Author.Needs.{needs}
 use borrow.Author.Tests.{not-true, not-false}
 use lib.Count.{trailing-le}
 use lib.Bits.{or-lt}
-use Rattle.whole.specs.Masks.{these}
+use Rattle.whole.specs.Masks.{these, Turn, turn}
 use Rattle.small_block.specs.Held.{nearBy, removedBy}
-use Rattle.small_block.specs.Seeking.{Turn, turn, Seeking, seek-none, seek-skip, seek-free, seek-found, seek-on, no-block}
+use Rattle.small_block.specs.Seeking.{Seeking, seek-none, seek-skip, seek-free, seek-found, seek-on, no-block}
 use Rattle.small_block.proofs.first_small.Statement.{statement}
 use Rattle.small_block.proofs.first_small.Tie as tie
 

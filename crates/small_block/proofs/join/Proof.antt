@@ -6,7 +6,7 @@ use borrow.Author.Needs.{needs}
 use lib.ListN.{length, take, length-set}
 use lib.Bits.{bitAnd}
 use lib.Count.{trailingZeros, trailing-le}
-use Rattle.whole.specs.Masks.{these, rest-less, these-length, these-none, write-turn}
+use Rattle.whole.specs.Masks.{these, turn, these-length, these-end, write-turn}
 use Rattle.small_block.proofs.join.Statement.{statement}
 use Rattle.small_block.proofs.join.Tie as tie
 
@@ -48,12 +48,12 @@ sub-rest : tie.Need-sub-rest Inv-loop μ-loop
 sub-rest c = omega arith
 
 loop-less : tie.Need-loop-less Inv-loop μ-loop
-loop-less c = rest-less (c .before .loop .rest) (c .loop-test .taken) (c .before .loop .inv .0)
+loop-less c = turn (c .before .loop .rest) (c .loop-test .taken) (c .before .loop .inv .0) .less
 
 loop-again : tie.Need-loop-again Inv-loop μ-loop
 loop-again c =
     let l = c .before .loop in (
-      omega (arith, rest-less (l .rest) (c .loop-test .taken) (l .inv .0)),
+      turn (l .rest) (c .loop-test .taken) (l .inv .0) .smaller,
       length-set (l .order) (l .at) (trailingZeros 64 (l .rest)) ∙ l .inv .1,
       omega (arith, counted c),
       omega (arith, counted c),
@@ -63,7 +63,7 @@ loop-again c =
 returns : tie.Need-returns Inv-loop μ-loop
 returns c =
     let l = c .before .loop in
-    let none : these (l .rest) ≡ [] = ap these (c .loop-test .left) ∙ these-none in
+    let none : these (l .rest) ≡ [] = these-end (l .rest) (c .loop-test .left) in
     (l .inv .1, omega (arith, ap length none), sym (append-nil (take (l .at) (l .order))) ∙ ap (λ (xs : List ℕ). take (l .at) (l .order) ++ xs) (sym none) ∙ l .inv .4)
 
 pub join-spec : {M : Type 1} → statement M

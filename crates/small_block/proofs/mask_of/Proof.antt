@@ -7,7 +7,8 @@ use denote.Ref.{now}
 use lib.Bits.{or-lt}
 use lib.ListN.{getD}
 use lib.IntN.{pos}
-use Rattle.small_block.specs.Tables.{Marks, marks-none, marks-yes, marks-no, marks-list, zero-no, zero-yes, joinedBy}
+use Rattle.whole.specs.Cmp.{zero-is, zero-not}
+use Rattle.small_block.specs.Tables.{Marks, marks-none, marks-yes, marks-no, marks-list, joinedBy}
 use Rattle.small_block.proofs.mask_of.Statement.{statement}
 use Rattle.small_block.proofs.mask_of.Tie as tie
 
@@ -50,8 +51,8 @@ loop-again c =
     ⊎-elim
     (λ w.
     let one : w .1 .result < 2 ^ 64 = omega arith in
-    rw (w .2) (omega arith, or-lt 64 (l .m) (w .1 .result) (l .inv .1) one, marks-yes p (l .j) (l .m) (w .1 .result) (l .inv .2) (w .1 .ensures) (zero-no z (w .0 .taken))))
-    (λ w. rw (w .1) (omega arith, l .inv .1, marks-no p (l .j) (l .m) (l .inv .2) (zero-yes z (c .before .w .given) (w .0 .left))))
+    rw (w .2) (omega arith, or-lt 64 (l .m) (w .1 .result) (l .inv .1) one, marks-yes p (l .j) (l .m) (w .1 .result) (l .inv .2) (w .1 .ensures) (zero-not z (w .0 .taken))))
+    (λ w. rw (w .1) (omega arith, l .inv .1, marks-no p (l .j) (l .m) (l .inv .2) (zero-is z (c .before .w .given) (w .0 .left))))
     (c .if1 .came)
 
 returns : tie.Need-returns Inv-loop μ-loop

@@ -4,9 +4,9 @@ use native.Mathlib.Omega.{arith}
 use borrow.Author.Needs.{needs}
 use denote.Ref.{now}
 use Rattle.rules.specs.SmallBlock.{overCuts}
-use Rattle.whole.specs.Masks.{these}
+use Rattle.whole.specs.Masks.{these, Turn, turn}
 use Rattle.small_block.specs.Held.{nearBy, removedBy}
-use Rattle.small_block.specs.Seeking.{Turn, turn, cuts-none, cuts-skip, cuts-found, cuts-on, no-block}
+use Rattle.small_block.specs.Seeking.{cuts-none, cuts-skip, cuts-found, cuts-on, no-block}
 use Rattle.small_block.proofs.over_cuts.Statement.{statement}
 use Rattle.small_block.proofs.over_cuts.Tie as tie
 

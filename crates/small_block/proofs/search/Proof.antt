@@ -6,10 +6,10 @@ use borrow.Author.Needs.{needs}
 use denote.Ref.{now}
 use lib.Count.{trailingZeros}
 use Rattle.rules.specs.SmallBlock.{search as searched, overCuts, overRemoved}
-use Rattle.whole.specs.Masks.{these}
+use Rattle.whole.specs.Masks.{these, Turn, turn}
 use Rattle.small_block.specs.Held.{nearBy}
 use Rattle.small_block.specs.Cutting.{removed-is}
-use Rattle.small_block.specs.Seeking.{Turn, turn, removed-over, removed-found, removed-on, search-found, search-on, no-block}
+use Rattle.small_block.specs.Seeking.{removed-over, removed-found, removed-on, search-found, search-on, no-block}
 use Rattle.small_block.proofs.search.Statement.{statement}
 use Rattle.small_block.proofs.search.Tie as tie
 

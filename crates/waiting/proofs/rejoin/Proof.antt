@@ -1,13 +1,11 @@
 use mathlib.Core.Path.{_≡_, refl, sym, _∙_}
 use mathlib.Core.List.{List}
-use Prim.Native.Nat.{ℕ, _-_, _^_, _<_}
+use Prim.Native.Nat.{_-_, _^_, _<_}
 use native.Mathlib.Omega.{arith}
-use lib.Bits.{bitAnd}
-use lib.Count.{trailingZeros}
 use lib.IntN.{ℤ}
 use borrow.Author.Needs.{needs}
 use denote.Ref.{now}
-use Rattle.whole.specs.Masks.{these, these-below, first-in, rest-less}
+use Rattle.whole.specs.Masks.{these, Turn, turn}
 use Rattle.rules.specs.Graph.{graph}
 use Rattle.rules.specs.Run.{join}
 use Rattle.queue.specs.Items.{items, Kept}
@@ -26,32 +24,24 @@ abbrev μ-loop : tie.MeasureT-loop
 loop-holds : tie.Need-loop-holds Inv-loop μ-loop
 loop-holds c = (search needs, c .pre .1, λ k l. refl)
 
--- in a turn: its decision, and the mask without it
-module _ (t : tie.In-loop Inv-loop μ-loop) where
-  abbrev rest : ℕ
-  rest = t .before .loop .rest
-
-  low : trailingZeros 64 rest < 64
-  low = these-below rest (trailingZeros 64 rest) (first-in rest (t .loop-test .taken) (t .before .loop .inv .0))
-
-  less : bitAnd rest (rest - 1) < rest
-  less = rest-less rest (t .loop-test .taken) (t .before .loop .inv .0)
+at : (t : tie.In-loop Inv-loop μ-loop) → Turn (t .before .loop .rest)
+at t = turn (t .before .loop .rest) (t .loop-test .taken) (t .before .loop .inv .0)
 
 cast-j : tie.Need-cast-j Inv-loop μ-loop
-cast-j c = omega (arith, low c)
+cast-j c = omega (arith, at c .below)
 
 join-one-requires : tie.Need-join-one-requires Inv-loop μ-loop
-join-one-requires c κs = (c .before .before .before .pre .0, low (c .before), c .before .before .loop .inv .1)
+join-one-requires c κs = (c .before .before .before .pre .0, at (c .before) .below, c .before .before .loop .inv .1)
 
 loop-less : tie.Need-loop-less Inv-loop μ-loop
-loop-less c = less (c .before .before)
+loop-less c = at (c .before .before) .less
 
 loop-again : tie.Need-loop-again Inv-loop μ-loop
 loop-again c =
     let t = c .before .before in
     let m = t .before in
     let a = m .before .args in (
-      omega (arith, less t),
+      at t .smaller,
       c .join-one .ensures .0,
       λ k l. m .loop .inv .2 k l ∙ join-next (a .switches) (graph (a .n) k l (now (a .edges)) (now (a .states))) (m .loop .rest) (items (m .loop .q) (m .loop .ring)) _ (t .loop-test .taken) (m .loop .inv .0) (c .join-one .ensures .1 k l),
     )
