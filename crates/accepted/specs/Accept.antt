@@ -1,7 +1,7 @@
 -- What is known of an objective that is not refused.
 -- Assumes nothing.
 use mathlib.Core.Path.{_≡_, refl}
-use mathlib.Core.Bool.{Bool, true, false, cond, not, _||_}
+use mathlib.Core.Bool.{Bool, true, false, cond, not}
 use mathlib.Core.List.{List, [], _∷_}
 use Prim.Native.Nat.{ℕ, zero, suc, _+_, _<_, _≤_}
 use native.Mathlib.Omega.{arith}
@@ -9,6 +9,7 @@ use lib.Dec.{ltb, leb, eqb}
 use lib.ListN.{length, getD}
 use borrow.Author.Tests.{ltb-false, leb-false, eqb-true}
 use Rattle.whole.specs.Words.{some, oneOf}
+use Rattle.whole.specs.Tests.{or-false}
 use Rattle.rules.specs.Objective.{Objective, objective, weightOf}
 use Rattle.rules.specs.Refuse.{firstRow, badLengths, badIndex, badFixing, tooHeavy, reduceRefusal}
 
@@ -65,10 +66,6 @@ unfolding firstRow
 rows [] n e = tt
 rows (r ∷ rs) n e = let h = row (r .0) (r .1) (firstRow rs) (n .0) e in (h .0, rows rs (n .1) (h .1))
 
-neither : (s t : Bool) → (s || t) ≡ false → (s ≡ false) × (t ≡ false)
-neither true t e = let y : _≡_ {A = ℕ} 0 1 = cc in absurd (omega arith)
-neither false t e = (refl, e)
-
 abbrev NoTest : List Bool → Type 0
 NoTest [] = Unit
 NoTest (t ∷ ts) = (t ≡ false) × NoTest ts
@@ -76,7 +73,7 @@ NoTest (t ∷ ts) = (t ≡ false) × NoTest ts
 tests : (ts : List Bool) → oneOf ts ≡ false → NoTest ts
 unfolding oneOf
 tests [] e = tt
-tests (t ∷ ts) e = (neither t (oneOf ts) e .0, tests ts (neither t (oneOf ts) e .1))
+tests (t ∷ ts) e = (or-false t (oneOf ts) e .0, tests ts (or-false t (oneOf ts) e .1))
 
 long : (m k : ℕ) → not (eqb m k) ≡ false → m ≡ k
 long m k e = by (eqb m k) refl e
@@ -89,8 +86,8 @@ long m k e = by (eqb m k) refl e
 none : (p : ℕ → Bool) (l : List ℕ) → some p l ≡ false → (k : ℕ) → k < length l → p (getD l k 0) ≡ false
 unfolding some
 none p [] e k h = absurd (omega arith)
-none p (x ∷ l) e zero h = neither (p x) (some p l) e .0
-none p (x ∷ l) e (suc k) h = none p l (neither (p x) (some p l) e .1) k (omega arith)
+none p (x ∷ l) e zero h = or-false (p x) (some p l) e .0
+none p (x ∷ l) e (suc k) h = none p l (or-false (p x) (some p l) e .1) k (omega arith)
 
 pub accept : (o : Objective) (l e : ℕ) → reduceRefusal o l e ≡ 0 → Accepted o l e
 unfolding reduceRefusal badLengths badIndex badFixing tooHeavy

@@ -9,19 +9,12 @@ use Rattle.rules.specs.Objective.{Objective}
 use Rattle.rules.specs.Outcome.{outcome}
 use Rattle.rules.specs.Record.{blockOf}
 use Rattle.rules.specs.Refuse.{reduceRefusal}
-use Rattle.rules.specs.Call.{unless, refused, reported, reduction, linearAfter, edgesAfter}
+use Rattle.rules.specs.Call.{unless, reduction, linearAfter, edgesAfter}
 use Rattle.rules.specs.declared.Reduction.{Reduction}
 use Rattle.reduce.specs.Gives.{Gives}
+use Rattle.reduce.specs.GivesLaws.{answer-is}
 use Rattle.balecreak.specs.Calls.{listed, GivesInto, ReducedInto}
 use Rattle.balecreak.specs.RowLaws.{lentRefusal, into-reduce, into-lent}
-
-answer-is : (o : Objective) (l e : ℕ) → reduction o l e .answer ≡ reduceRefusal o l e
-unfolding reduction
-answer-is o l e = by (reduceRefusal o l e)
-  where
-    by : (k : ℕ) → unless k (reported (o .n) (outcome o)) (refused k) .answer ≡ k
-    by zero = refl
-    by (suc k) = refl
 
 module _ (o : Objective) (l e : List ℤ) (b c : List ℕ) where
   -- one of the two lengths is wrong

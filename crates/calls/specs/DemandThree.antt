@@ -1,16 +1,15 @@
 -- Demand 3 on what the calls really give: reduce, then write_record, read_record, and growing back or projecting from the very bytes.
 -- Each hypothesis is the contract of one call, each conclusion stands over what that call gave.
 -- Assumes nothing.
-use mathlib.Core.Path.{_≡_, refl, sym, ap, ap₂, _∙_, subst}
+use mathlib.Core.Path.{_≡_, sym, ap, ap₂, _∙_, subst}
 use mathlib.Core.List.{List}
-use Prim.Native.Nat.{ℕ, zero, suc}
+use Prim.Native.Nat.{ℕ}
 use lib.ListN.{length, take}
 use lib.IntN.{ℤ}
 use lib.Signed.{_≤ℤ_}
 use Rattle.rules.specs.Objective.{Objective}
-use Rattle.rules.specs.Outcome.{outcome}
 use Rattle.rules.specs.Refuse.{reduceRefusal, writeRefusal}
-use Rattle.rules.specs.Call.{unless, reported, refused, reduction, linearAfter, edgesAfter, blockAfter, reading, planAfter, answerAfter, blockPlanAfter, blockAnswerAfter}
+use Rattle.rules.specs.Call.{reduction, linearAfter, edgesAfter, blockAfter, reading, planAfter, answerAfter, blockPlanAfter, blockAnswerAfter}
 use Rattle.rules.specs.declared.Record.{Record}
 use Rattle.rules.specs.declared.Reading.{Reading}
 use Rattle.rules.specs.declared.Reduction.{Reduction}
@@ -20,15 +19,7 @@ use Rattle.run_record.specs.ByBlock.{by-block}
 use Rattle.record.specs.Promises.{Writes, Reads}
 use Rattle.back.specs.Calls.{GrownBackBlock, ProjectedBlock}
 use Rattle.reduce.specs.Gives.{Gives}
-
--- the number in a reduction is the refusal's
-answer-is : (o : Objective) (l e : ℕ) → reduction o l e .answer ≡ reduceRefusal o l e
-unfolding reduction
-answer-is o l e = by (reduceRefusal o l e)
-  where
-    by : (k : ℕ) → unless k (reported (o .n) (outcome o)) (refused k) .answer ≡ k
-    by zero = refl
-    by (suc k) = refl
+use Rattle.reduce.specs.GivesLaws.{answer-is}
 
 -- `reduce` was lent outputs that held l and e, and gave r, l′ and e′; it did not refuse
 module _ (o : Objective) (l e l′ e′ : List ℤ) (r : Reduction) (gave : Gives o l e r l′ e′) (fine : r .answer ≡ 0) where

@@ -10,26 +10,13 @@ use native.Mathlib.Decide.{decLt}
 use lib.ListN.{length, getD, length-append, List·getD-append}
 use lib.Seq.{getD-at}
 use lib.IntN.{ℤ, pos, _+ℤ_, +ℤ-idr}
-use Rattle.whole.specs.Words.{from, upto, mem, those}
-use Rattle.whole.specs.Members.{in-head, in-tail, apart-at, apart-those, apart-upto}
+use Rattle.whole.specs.Words.{from, upto, those}
+use Rattle.whole.specs.Those.{those-append}
+use Rattle.whole.specs.Members.{apart-at, apart-those, apart-upto}
 use Rattle.whole.specs.Sum.{Σ<, Σ-cong}
 use Rattle.meaning.specs.Cost.{when, when-zero, sum-zero, rowCost, costOf}
 
 -- ---- those that pass
-pub those-append : (p : ℕ → Bool) (xs ys : List ℕ) → those p (xs ++ ys) ≡ those p xs ++ those p ys
-unfolding those
-those-append p [] ys = refl
-those-append p (x ∷ xs) ys = go (p x) (those-append p xs ys)
-  where
-    go : (b : Bool) → those p (xs ++ ys) ≡ those p xs ++ those p ys → cond b (x ∷ those p (xs ++ ys)) (those p (xs ++ ys)) ≡ cond b (x ∷ those p xs) (those p xs) ++ those p ys
-    go true r = ap (λ (l : List ℕ). x ∷ l) r
-    go false r = r
-
-pub those-ext : (p q : ℕ → Bool) (xs : List ℕ) → ((k : ℕ) → mem k xs ≡ true → p k ≡ q k) → those p xs ≡ those q xs
-unfolding those
-those-ext p q [] h = refl
-those-ext p q (x ∷ xs) h = ap₂ (λ (b : Bool) (l : List ℕ). cond b (x ∷ l) l) (h x (in-head x xs)) (those-ext p q xs (λ k m. h k (in-tail k x xs m)))
-
 from-append : (k a b : ℕ) → from k (a + b) ≡ from k a ++ from (k + a) b
 unfolding from
 from-append k zero b = let e : zero + b ≡ b = omega arith in let f : k + zero ≡ k = omega arith in ap₂ from (sym f) e

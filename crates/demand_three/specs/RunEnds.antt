@@ -12,6 +12,7 @@ use borrow.Author.Tests.{eqb-true}
 use Rattle.whole.specs.Words.{upto, mem, those}
 use Rattle.whole.specs.Tests.{refuse}
 use Rattle.whole.specs.Members.{out-cons, upto-in}
+use Rattle.whole.specs.Masks.{those-ext}
 use Rattle.rules.specs.Objective.{Objective}
 use Rattle.rules.specs.Graph.{Graph, active, actives}
 use Rattle.rules.specs.Eliminate.{Step}
@@ -22,7 +23,6 @@ use Rattle.meaning.specs.Stands.{Fine, marked}
 use Rattle.sound_run.specs.Sound.{Steps, decisions}
 use Rattle.run_laws.specs.StepLaws.{steps-alive}
 use Rattle.sound_run.specs.SoundStart.{statesFrom, start-stands, ended-sound}
-use Rattle.demand_three.specs.Places.{those-ext}
 
 -- ---- steps and states
 -- what is fixed is no step's decision

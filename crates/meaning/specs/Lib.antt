@@ -10,6 +10,7 @@ pub mod RunLaws
 pub mod OverLists
 pub mod Neat
 pub mod Growth
+pub mod Turns
 pub mod BlockCost
 pub mod Found
 pub mod BlockSteps

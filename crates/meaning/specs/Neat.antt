@@ -33,7 +33,8 @@ neat-tidy g s w i j li m =
     let p = in-nbrs g i j m in
     w .ends i j (omega arith) (omega (arith, p .0)) (p .1) .1 .1
 
-wider : {m n : ℕ} {xs : List ℕ} → m ≤ n → Apart m xs → Apart n xs
+-- below m, so below any larger number
+pub wider : {m n : ℕ} {xs : List ℕ} → m ≤ n → Apart m xs → Apart n xs
 wider h none = none
 wider h (one {x = x} l d a) = one {x = x} (omega arith) d (wider h a)
 

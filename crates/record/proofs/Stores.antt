@@ -2,13 +2,14 @@
 -- Assumes nothing.
 use mathlib.Core.Path.{_≡_, sym, ap, _∙_}
 use mathlib.Core.List.{List, [], _∷_, _++_, map, append-nil, map-append}
-use Prim.Native.Nat.{ℕ, zero, suc, _+_, _*_, _<_, _≤_}
+use Prim.Native.Nat.{ℕ, suc, _+_, _*_, _<_, _≤_}
 use native.Mathlib.Omega.{arith}
 use native.Mathlib.Nat.{add-zero}
 use native.Mathlib.Numerals.{add-one}
 use lib.ListN.{length, getD, take, drop, set, length-map, drop-of-length-le}
 use lib.Seq.{sets, sets-eq, drop-cons, take-at, take-suc, take-suc-set}
 use Rattle.whole.specs.Words.{from}
+use Rattle.whole.specs.Those.{from-last}
 use Rattle.rules.specs.Record.{noStep, stepBytes, stepsBytes}
 use Rattle.rules.specs.declared.Step.{Step}
 
@@ -45,13 +46,6 @@ module _ {A : Type 0} where
   -- one store of a loop that fills a list from the front
   pub fill-next : (l m : List A) (k : ℕ) (v d : A) → k < length l → k < length m → take k l ≡ take k m → v ≡ getD m k d → take (k + 1) (set l k v) ≡ take (k + 1) m
   fill-next l m k v d h g e w = rw (add-one, take-suc-set l k v h, take-suc m k d g, e, w)
-
-from-last : (a c : ℕ) → from a (suc c) ≡ from a c ++ (a + c) ∷ []
-unfolding from
-from-last a zero = rw add-zero
-from-last a (suc c) =
-    let e : suc a + c ≡ a + suc c = omega arith in
-    ap (λ (r : List ℕ). a ∷ r) (from-last (suc a) c ∙ ap (λ (k : ℕ). from (suc a) c ++ k ∷ []) e)
 
 -- one store of a loop that fills a list from the front by a rule
 pub fill-by : {A : Type 0} (f : ℕ → A) (l : List A) (k : ℕ) (v : A) → k < length l → take k l ≡ map f (from 0 k) → v ≡ f k → take (k + 1) (set l k v) ≡ map f (from 0 (k + 1))

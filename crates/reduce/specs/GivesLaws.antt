@@ -98,6 +98,15 @@ module _ (o : Objective) (fit : Fit o) (r : Ended) (w : Lent) (k : Ends (rule.en
       edges = s ∙ edges-of (graphIn (r .state) w) m ok listed ∙ ap edgeOut (k .state .graph);
     }
 
+-- the number in a reduction is the refusal's
+pub answer-is : (o : Objective) (l e : ℕ) → reduction o l e .answer ≡ reduceRefusal o l e
+unfolding reduction
+answer-is o l e = by (reduceRefusal o l e)
+  where
+    by : (k : ℕ) → unless k (reported (o .n) (outcome o)) (refused k) .answer ≡ k
+    by zero = refl
+    by (suc k) = refl
+
 -- the number is that of the refusal: not 0, or 0
 module _ (o : Objective) (k : ℕ) (l e : List ℤ) (h : k ≡ reduceRefusal o (length l) (length e)) where
   -- kept where the number is not 0

@@ -12,9 +12,9 @@ use lib.ListN.{length, getD, set, take, drop, length-set}
 use lib.Seq.{set-getD, length-take-le, getD-take, set-set, set-comm, getD-set-other, take-set-le, take-set-lt, drop-set-lt, drop-set-add}
 use borrow.Author.Tests.{eqb-true, ne-eqb, eqb-false, not-true}
 use Rattle.whole.specs.Words.{from, all}
+use Rattle.whole.specs.Tests.{and-true}
 use Rattle.rules.specs.Record.{fromLittle, Sums, check, checkRight, sealed}
 use Rattle.roundtrip.specs.Bytes.{Bytes, bytes-front, bytes-set}
-use Rattle.roundtrip.specs.Ranges.{both}
 use Rattle.roundtrip.specs.RoundTrip.{right-sealed}
 use Rattle.roundtrip.specs.Sums.{total, weighted, check-first, check-second, total-set, weighted-set}
 
@@ -22,7 +22,7 @@ use Rattle.roundtrip.specs.Sums.{total, weighted, check-first, check-sec
 all-at : (p : ℕ → Bool) (c a i : ℕ) → all p (from a c) ≡ true → a ≤ i → i < a + c → p i ≡ true
 unfolding all from
 all-at p zero a i e h k = absurd (omega arith)
-all-at p (suc c) a i e h k = by (ℕ-discrete i a) (both (p a) (all p (from (suc a) c)) e) (λ t l. all-at p c (suc a) i t l (omega arith))
+all-at p (suc c) a i e h k = by (ℕ-discrete i a) (and-true (p a) (all p (from (suc a) c)) e) (λ t l. all-at p c (suc a) i t l (omega arith))
   where
     by : Dec (i ≡ a) → (p a ≡ true) × (all p (from (suc a) c) ≡ true) → (all p (from (suc a) c) ≡ true → suc a ≤ i → p i ≡ true) → p i ≡ true
     by (yes q) t f = ap p q ∙ t .0
@@ -104,7 +104,7 @@ record Right (b : List ℕ) : Type 0 where
 right : (b : List ℕ) → checkRight b ≡ true → Right b
 unfolding checkRight
 right b e =
-    let t = both (eqb (fromLittle (take 2 (drop 508 b))) (check (take 508 b) .s1)) _ e in
+    let t = and-true (eqb (fromLittle (take 2 (drop 508 b))) (check (take 508 b) .s1)) _ e in
     record { first = sym (eqb-true _ _ (t .0)); second = sym (eqb-true _ _ (t .1)) }
 
 -- a change past 509 leaves the first sum's bytes

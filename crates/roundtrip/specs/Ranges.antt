@@ -1,7 +1,7 @@
 -- Stretches of a list: zeros, and steps of six bytes, read and written.
 -- Assumes nothing.
 use mathlib.Core.Path.{_≡_, refl, sym, ap, _∙_}
-use mathlib.Core.Bool.{Bool, true, false, _&&_}
+use mathlib.Core.Bool.{true}
 use mathlib.Core.List.{List, [], _∷_, _++_, map, append-assoc}
 use Prim.Native.Nat.{ℕ, zero, suc, _+_, _*_, _≤_}
 use native.Mathlib.Omega.{arith}
@@ -11,12 +11,9 @@ use lib.ListN.{length, getD, take, drop, replicate}
 use lib.Seq.{drop-cons, drop-drop, getD-drop, take-add}
 use borrow.Author.Tests.{eqb-true, eq-eqb}
 use Rattle.whole.specs.Words.{from, all}
+use Rattle.whole.specs.Tests.{and-true}
 use Rattle.rules.specs.Record.{stepIn, stepBytes, stepsBytes}
 use Rattle.rules.specs.declared.Step.{Step}
-
-pub both : (s t : Bool) → (s && t) ≡ true → (s ≡ true) × (t ≡ true)
-both true t e = (refl, e)
-both false t e = let y : _≡_ {A = ℕ} 0 1 = cc in absurd (omega arith)
 
 -- what stands at a place and after it
 pub drop-at-place : (l : List ℕ) (a x : ℕ) (r : List ℕ) → drop a l ≡ x ∷ r → (getD l a 0 ≡ x) × (drop (suc a) l ≡ r)
@@ -37,7 +34,7 @@ pub zeros-stand : (c a : ℕ) (l : List ℕ) → a + c ≤ length l → all (λ 
 unfolding all from
 zeros-stand zero a l h e = refl
 zeros-stand (suc c) a l h e =
-    let t = both (eqb (getD l a 0) 0) (all (λ k. eqb (getD l k 0) 0) (from (suc a) c)) e in
+    let t = and-true (eqb (getD l a 0) 0) (all (λ k. eqb (getD l k 0) 0) (from (suc a) c)) e in
     rw (drop-cons l a 0 (omega arith), eqb-true (getD l a 0) 0 (t .0), zeros-stand c (suc a) l (omega arith) (t .1))
 
 -- ---- steps

@@ -12,11 +12,12 @@ use lib.ListN.{length, getD, take, drop, replicate, length-map, length-drop}
 use lib.Seq.{take-at, drop-at, drop-drop, take-add, take-all, length-take-le, getD-drop}
 use borrow.Author.Tests.{eq-eqb, eqb-true, leb-true, not-false}
 use Rattle.whole.specs.Words.{from, upto, all, allOf}
+use Rattle.whole.specs.Tests.{and-true}
 use Rattle.rules.specs.Record.{edition, little, fromLittle, twos, fromTwos, stepIn, body, check, checkRight, sealed, blockOf, recordIn, sound, broken, zerosIn, bodyBroken}
 use Rattle.rules.specs.Refuse.{firstRow, readRefusal}
 use Rattle.rules.specs.declared.Record.{Record}
 use Rattle.roundtrip.specs.Bytes.{Bytes, bytes-front, little-length, from-little, little-from, from-below, from-twos, twos-from, twos-below}
-use Rattle.roundtrip.specs.Ranges.{both, stretch, zeros-read, zeros-stand, steps-read, steps-written}
+use Rattle.roundtrip.specs.Ranges.{stretch, zeros-read, zeros-stand, steps-read, steps-written}
 use Rattle.roundtrip.specs.Fields.{Held, body-length, from12, from76, from460, whole, drop4, drop12, drop76, drop460}
 use Rattle.roundtrip.specs.Seal.{seal-length, seal-right}
 
@@ -24,9 +25,9 @@ use Rattle.roundtrip.specs.Seal.{seal-length, seal-right}
 constant-small : (r : Record) → sound r ≡ true → natAbs (r .constant) ≤ 1099511627776
 unfolding sound allOf
 constant-small r e =
-    let a = both (leb (r .n) 64) _ e in
-    let b = both (leb (r .count) 64) _ (a .1) in
-    leb-true (natAbs (r .constant)) 1099511627776 (both (leb (natAbs (r .constant)) 1099511627776) _ (b .1) .0)
+    let a = and-true (leb (r .n) 64) _ e in
+    let b = and-true (leb (r .count) 64) _ (a .1) in
+    leb-true (natAbs (r .constant)) 1099511627776 (and-true (leb (natAbs (r .constant)) 1099511627776) _ (b .1) .0)
 
 module _ (r : Record) (h : Held r) where
   -- ---- a written block is read as its record
@@ -82,7 +83,7 @@ accept b e =
     let c = row 9 (not (checkRight b)) _ (a .1) in
     let d = row 10 (not (eqb (getD b 0 0) edition)) _ (c .1) in
     let f = row 11 (bodyBroken b) _ (d .1) in
-    let g = both (zerosIn b) (sound (recordIn b)) (not-false _ (f .0)) in
+    let g = and-true (zerosIn b) (sound (recordIn b)) (not-false _ (f .0)) in
     record {
       long = eqb-true (length b) 512 (not-false _ (a .0));
       right = not-false (checkRight b) (c .0);
@@ -107,7 +108,7 @@ module _ (b : List ℕ) (h : Bytes b) where
     pub right-sealed : checkRight b ≡ true → sealed (take 508 b) ≡ b
     unfolding checkRight sealed
     right-sealed e =
-        let t = both (eqb (fromLittle (take 2 (drop 508 b))) (check (take 508 b) .s1)) _ e in
+        let t = and-true (eqb (fromLittle (take 2 (drop 508 b))) (check (take 508 b) .s1)) _ e in
         let p = part-again 2 508 _ (omega arith) (sym (eqb-true _ _ (t .0))) in
         let q = part-again 2 510 _ (omega arith) (sym (eqb-true _ _ (t .1))) in
         rw (p, q, ← take-add 508 2 b, ← take-add 510 2 b) (take-all 512 b (omega arith))
@@ -129,13 +130,13 @@ module _ (b : List ℕ) (h : Bytes b) where
     head-again : Accepted b → edition ∷ getD b 1 0 ∷ getD b 2 0 ∷ 0 ∷ [] ≡ take 4 b
     unfolding zerosIn all from
     head-again a =
-        let z = eqb-true (getD b 3 0) 0 (both (eqb (getD b 3 0) 0) _ (a .zeros) .0) in
+        let z = eqb-true (getD b 3 0) 0 (and-true (eqb (getD b 3 0) 0) _ (a .zeros) .0) in
         let s : take 4 b ≡ getD b 0 0 ∷ getD b 1 0 ∷ getD b 2 0 ∷ getD b 3 0 ∷ [] = stretch 4 0 0 b (omega arith) in
         sym (rw (a .edition, z) at s)
 
     zeros-again : Accepted b → replicate 48 0 ≡ take 48 (drop 460 b)
     unfolding zerosIn all
-    zeros-again a = sym (zeros-stand 48 460 b (omega arith) (both (eqb (getD b 3 0) 0) _ (a .zeros) .1))
+    zeros-again a = sym (zeros-stand 48 460 b (omega arith) (and-true (eqb (getD b 3 0) 0) _ (a .zeros) .1))
 
     body-again : Accepted b → body (recordIn b) ≡ take 508 b
     unfolding body recordIn

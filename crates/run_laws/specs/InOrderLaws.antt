@@ -19,6 +19,7 @@ use Rattle.rules.specs.DominantEdge.{weak, contract, contractStep}
 use Rattle.rules.specs.SmallBlock.{eliminateBlock, blockSteps}
 use Rattle.rules.specs.Run.{Tally, tally, plus, State, waiting, Way, inactive, low, into, three, failed, idle, way, join, reduced, skipped, go, takeFront, blocked, due, next, run, begin, ended}
 use Rattle.meaning.specs.Growth.{in-nbrs}
+use Rattle.meaning.specs.Neat.{wider}
 use Rattle.meaning.specs.Stands.{Fine}
 use Rattle.meaning.specs.Found.{found-block}
 use Rattle.accepted.specs.Accept.{Fit}
@@ -27,7 +28,7 @@ use Rattle.sound_run.specs.SoundRun.{run-sound, begin-sound}
 use Rattle.sound_run.specs.SoundStart.{start-stands}
 use Rattle.size_rule.specs.RunWithin.{reduced-within}
 use Rattle.run_laws.specs.DueLaws.{Due, take, block, next-due, run-one, run-keeps}
-use Rattle.run_laws.specs.QueueLaws.{waiting-apart, apart-wider, join-apart}
+use Rattle.run_laws.specs.QueueLaws.{waiting-apart, join-apart}
 use Rattle.run_laws.specs.StepLaws.{steps-few, block-steps-length}
 use Rattle.run_laws.specs.InOrder.{Counted, InOrder, Room}
 
@@ -149,7 +150,7 @@ module _ (g : Graph) where
       record {
         n = few;
         queue = omega (arith, pigeon (g .n) (o .queue));
-        waiting = apart-wider (omega arith) (o .queue);
+        waiting = wider (omega arith) (o .queue);
         steps = omega arith;
         eliminated = omega (arith, c .steps);
         three = omega (arith, c .steps, c .three);

@@ -3,8 +3,7 @@
 use mathlib.Core.Path.{_≡_, refl}
 use mathlib.Core.Bool.{Bool, true, false, cond, not, _&&_}
 use mathlib.Core.List.{List, [], _∷_, _++_}
-use Prim.Native.Nat.{ℕ, _<_, _≤_}
-use native.Mathlib.Omega.{arith}
+use Prim.Native.Nat.{ℕ, _<_}
 use Rattle.whole.specs.Words.{mem}
 use Rattle.whole.specs.Pigeon.{Apart, none, one}
 use Rattle.whole.specs.Tests.{and-true, off-not}
@@ -20,11 +19,6 @@ actives-apart g = apart-those (λ i. active g i) (apart-upto (g .n))
 pub waiting-apart : (sw : ℕ) (g : Graph) → Apart (g .n) (waiting sw g)
 unfolding waiting
 waiting-apart sw g = apart-those (λ i. eligible sw g i) (actives-apart g)
-
--- below n, so below any larger number
-pub apart-wider : {n m : ℕ} {q : List ℕ} → n ≤ m → Apart n q → Apart m q
-apart-wider h none = none
-apart-wider h (one {x = x} l d a) = one {x = x} (omega arith) d (apart-wider h a)
 
 -- one that is not waiting joins the back
 pub push-apart : {n : ℕ} {q : List ℕ} (j : ℕ) → Apart n q → j < n → mem j q ≡ false → Apart n (q ++ j ∷ [])

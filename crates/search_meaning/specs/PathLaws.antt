@@ -1,17 +1,14 @@
--- Growing a component follows paths, and 64 turns are enough.
+-- Growing a component follows paths.
 -- Assumes nothing.
-use mathlib.Core.Path.{_≡_, refl, sym, ap, _∙_, subst}
+use mathlib.Core.Path.{_≡_, refl, sym, subst}
 use mathlib.Core.Bool.{true, false, not}
-use mathlib.Core.List.{List, [], _∷_, _++_, append-nil}
-use Prim.Native.Nat.{ℕ, zero, suc, _+_, _<_, _≤_}
-use native.Mathlib.Omega.{arith}
-use lib.ListN.{length, length-append}
+use mathlib.Core.List.{List, [], _∷_, _++_}
+use Prim.Native.Nat.{ℕ, zero, suc, _+_, _<_}
 use Rattle.whole.specs.Words.{mem}
 use Rattle.whole.specs.Tests.{clash, off-not}
-use Rattle.whole.specs.Pigeon.{pigeon}
 use Rattle.whole.specs.Members.{in-cons, in-head, in-append, in-left, in-right, in-those, out-append, apart-below}
 use Rattle.rules.specs.SmallBlock.{fresh, grow, component}
-use Rattle.meaning.specs.Growth.{Network, Grown, Growing, turn, begins, regroup, component-grown}
+use Rattle.meaning.specs.Growth.{Network, Grown, regroup, component-grown}
 use Rattle.search_meaning.specs.Paths.{PathFrom, start, onward}
 
 module _ (n : ℕ) (near : ℕ → List ℕ) (net : Network n near) (aside : List ℕ) where
@@ -43,25 +40,3 @@ module _ (n : ℕ) (near : ℕ → List ℕ) (net : Network n near) (aside : Lis
       let c : Grown n near aside (s ∷ []) (component near aside s) = component-grown n near net aside s l free in
       let m : mem i (component near aside s) ≡ true = path-reached s l free w in
       c .closed i k m (apart-below i (c .apart) m) h q
-
-  -- turns that find nothing to go through change nothing
-  idle : (f : ℕ) (old : List ℕ) → grow near f aside old [] ≡ old
-  unfolding grow
-  idle zero old = append-nil old
-  idle (suc f) old = refl
-
-  more : (f e : ℕ) (old new : List ℕ) → Growing n near aside old new → n ≤ length old + f → grow near (f + e) aside old new ≡ grow near f aside old new
-  unfolding grow
-  more zero e old [] w h = idle (zero + e) old ∙ sym (append-nil old)
-  more zero e old (i ∷ new) w h = absurd (full w h)
-    where
-      full : Growing n near aside old (i ∷ new) → n ≤ length old + 0 → ⊥
-      full w h = omega (arith, pigeon n (w .apart), length-append old (i ∷ new))
-  more (suc f) e old [] w h = idle (suc f + e) old
-  more (suc f) e old (i ∷ new) w h =
-      let up : suc f + e ≡ suc (f + e) = omega arith in
-      ap (λ (m : ℕ). grow near m aside old (i ∷ new)) up
-      ∙ more f e (old ++ i ∷ []) (new ++ fresh near aside (old ++ i ∷ new) i) (turn n near net aside old new i w) (omega (arith, length-append old (i ∷ [])))
-
-  pub turns-enough : (s e : ℕ) → s < n → mem s aside ≡ false → grow near (64 + e) aside [] (s ∷ []) ≡ component near aside s
-  turns-enough s e l free = more 64 e [] (s ∷ []) (begins n near net aside s l free) (omega (arith, net .few))

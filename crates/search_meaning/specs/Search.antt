@@ -12,10 +12,11 @@ use Rattle.rules.specs.Graph.{Graph, active, actives, neighbours}
 use Rattle.rules.specs.SmallBlock.{grow, component, isCut, small, findBlock, none, members, boundary, inner, bestMask}
 use Rattle.meaning.specs.CostLaws.{Shaped}
 use Rattle.meaning.specs.Growth.{Network, free, network}
+use Rattle.meaning.specs.Turns.{component-turns}
 use Rattle.meaning.specs.BlockCost.{cheapest-least, cheapest-lowest}
 use Rattle.meaning.specs.Found.{Removed, nothing, single, FoundBy, found-by, SmallBlock, found-block}
 use Rattle.search_meaning.specs.Paths.{PathFrom, Parts}
-use Rattle.search_meaning.specs.PathLaws.{reached-path, path-reached, turns-enough}
+use Rattle.search_meaning.specs.PathLaws.{reached-path, path-reached}
 use Rattle.search_meaning.specs.CutLaws.{cut-parts, parts-cut}
 use Rattle.search_meaning.specs.NoneFound.{none-unremoved, none-removed}
 
@@ -30,7 +31,7 @@ module _ (n : ℕ) (near : ℕ → List ℕ) (net : Network n near) where
 
   -- the 64 turns of growing are enough: any more change nothing
   pub growing-ends : (aside : List ℕ) (s e : ℕ) → s < n → mem s aside ≡ false → grow near (64 + e) aside [] (s ∷ []) ≡ component near aside s
-  growing-ends = turns-enough n near net
+  growing-ends aside s e = component-turns n near net aside e s
 
   -- "an active c other than the removed one is a cut when two of its neighbours, neither the removed one, have no path between them that avoids c and removed"
   pub cut-is : (removed : List ℕ) (c : ℕ) → c < n → Same (isCut near removed c ≡ true) (Parts near removed c)

@@ -1,9 +1,9 @@
 -- Growing a component by masks: what holds at each turn.
 -- Assumes nothing.
-use mathlib.Core.Path.{_≡_, refl, sym, ap, ap₂, _∙_, subst}
+use mathlib.Core.Path.{_≡_, sym, ap, ap₂, _∙_, subst}
 use mathlib.Core.Bool.{Bool, not, _||_}
-use mathlib.Core.List.{List, [], _∷_, _++_, append-nil, append-assoc}
-use Prim.Native.Nat.{ℕ, zero, suc, _+_, _-_, _<_, _≤_}
+use mathlib.Core.List.{List, [], _∷_, _++_, append-assoc}
+use Prim.Native.Nat.{ℕ, suc, _+_, _-_, _<_, _≤_}
 use native.Mathlib.Omega.{arith}
 use native.Mathlib.Numerals.{add-one}
 use lib.Bits.{bitAnd, bitOr, bitXor}
@@ -14,6 +14,7 @@ use Rattle.rules.specs.SmallBlock.{fresh, grow, component}
 use Rattle.whole.specs.Pigeon.{Apart, pigeon}
 use Rattle.whole.specs.Members.{mem-append}
 use Rattle.meaning.specs.Growth.{Network, Growing, turn}
+use Rattle.meaning.specs.Turns.{idle-turns}
 use Rattle.whole.specs.Masks.{these, bit-or, mem-these, these-below, these-less, those-ext}
 use Rattle.small_block.specs.Held.{nearBy}
 
@@ -40,14 +41,9 @@ module _ {near : ℕ → List ℕ} {aside : List ℕ} {seed : ℕ} {l : List ℕ
 
   -- nothing is left to go through
   pub going-end : length l ≡ done → l ≡ component near aside seed
-  unfolding grow
   going-end e =
       sym (w .leads ∙ ap₂ (λ (xs ys : List ℕ). grow near (64 - done) aside xs ys)
-      (ap (λ (k : ℕ). take k l) (sym e) ∙ take-length l) (ap (λ (k : ℕ). drop k l) (sym e) ∙ drop-length l) ∙ over (64 - done))
-    where
-      over : (f : ℕ) → grow near f aside l [] ≡ l
-      over zero = append-nil l
-      over (suc f) = refl
+      (ap (λ (k : ℕ). take k l) (sym e) ∙ take-length l) (ap (λ (k : ℕ). drop k l) (sym e) ∙ drop-length l) ∙ idle-turns near aside (64 - done) l)
 
   module _ (net : Network 64 near) (h : done < length l) where
     abbrev at : ℕ

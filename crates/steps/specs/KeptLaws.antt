@@ -1,7 +1,7 @@
 -- One more step is held.
 -- Assumes nothing.
-use mathlib.Core.Path.{_≡_, refl, sym, ap, _∙_}
-use mathlib.Core.List.{List, [], _∷_, _++_, map}
+use mathlib.Core.Path.{_≡_, sym, _∙_}
+use mathlib.Core.List.{List, [], _∷_, _++_, map, map-append}
 use Prim.Native.Nat.{suc, _+_, _-_, _<_}
 use native.Mathlib.Omega.{arith}
 use lib.ListN.{length, set, replicate, length-append, length-map}
@@ -12,15 +12,11 @@ use Rattle.rules.specs.Record.{noStep, hold, holdAll}
 use Rattle.steps.specs.declared.Steps.{Steps}
 use Rattle.steps.specs.Kept.{Kept}
 
-map-more : (ss : List rule.Step) (y : rule.Step) → map hold (ss ++ y ∷ []) ≡ map hold ss ++ hold y ∷ []
-map-more [] y = refl
-map-more (s ∷ ss) y = ap (λ (t : List Step). hold s ∷ t) (map-more ss y)
-
 pub held-more : (ss : List rule.Step) (y : rule.Step) → length ss < 64 → set (holdAll ss) (length ss) (hold y) ≡ holdAll (ss ++ y ∷ [])
 unfolding holdAll
 held-more ss y h =
     let room : 64 - length ss ≡ suc (64 - length (ss ++ y ∷ [])) = rw length-append (omega arith) in
-    rw (room, map-more ss y)
+    rw (room, map-append)
     (set-at (map hold ss) noStep (replicate (64 - length (ss ++ y ∷ [])) noStep) (hold y) (length ss) (length-map ss hold)
     ∙ sym (append-snoc (map hold ss) (hold y) (replicate (64 - length (ss ++ y ∷ [])) noStep)))
 

@@ -4,9 +4,10 @@ use mathlib.Core.Path.{_≡_, refl}
 use mathlib.Core.Bool.{Bool, true, false, not, cond, _&&_}
 use mathlib.Core.List.{List, [], _∷_, _++_}
 use Prim.Native.Nat.{ℕ, zero, suc, _+_, _*_, _/_, _%_, _^_, _<_, _≤_}
-use native.Mathlib.Nat.{pow-suc, pow-le-pow-right}
+use native.Mathlib.Nat.{pow-suc}
 use native.Mathlib.Omega.{arith}
 use lib.Dec.{ltb}
+use lib.Pow.{pow-mono}
 use lib.ListN.{length, take, length-append, length-take}
 use lib.IntN.{ℤ, pos, negsuc}
 use borrow.Author.Tests.{lt-ltb}
@@ -83,9 +84,6 @@ choices-most zero m = omega arith
 choices-most (suc c) m =
     rw length-append (omega (arith, decimal-length 0 20 (m % 2) (omega arith), choices-most c (m / 2)))
 
-power : (d : ℕ) → d ≤ 3 → 2 ^ d ≤ 8
-power d h = pow-le-pow-right {n = 2} (omega arith) h
-
 step-most : (s : Step) → Near3 s → length (stepLine s) ≤ 109
 step-most s h = omega (
   arith,
@@ -93,7 +91,7 @@ step-most s h = omega (
   decimal-most 20 (s .decision),
   listed-most (s .near),
   choices-most (2 ^ length (s .near)) (s .choices),
-  power (length (s .near)) h,
+  pow-mono h,
 )
 
 steps-most : (ss : List Step) → All Near3 ss → length (stepLines ss) ≤ 109 * length ss
