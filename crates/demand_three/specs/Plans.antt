@@ -22,6 +22,7 @@ use Rattle.meaning.specs.BlockCost.{mask-ext}
 use Rattle.meaning.specs.BlockSteps.{played}
 use Rattle.sound_run.specs.Sound.{decisions}
 use Rattle.demand_three.specs.Demands.{isOne}
+use Rattle.run_laws.specs.InOrderLaws.{at-most-one}
 
 -- ---- lists
 pub map-at : {A B : Type 0} (f : A → B) (xs : List A) (k : ℕ) (a : A) (b : B) → k < length xs → getD (map f xs) k b ≡ f (getD xs k a)
@@ -155,16 +156,12 @@ module _ (x : List ℕ) (h : Bits x) where
   unfolding play
   play-bits s i = by (ℕ-discrete i (s .decision)) (bit (s .choices) (maskOf x (s .near)))
     where
-      small : (b : Bool) → oneIf b ≤ 1
-      small true = omega arith
-      small false = omega arith
-
       by : Dec (i ≡ s .decision) → (b : Bool) → getD (set x (s .decision) (oneIf b)) i 0 ≤ 1
       by (no d) b = rw (getD-set-other x (s .decision) i (oneIf b) 0 d) (h i)
       by (yes e) b = inside (decLt i (length x))
         where
           inside : Dec (i < length x) → getD (set x (s .decision) (oneIf b)) i 0 ≤ 1
-          inside (yes l) = rw (← e, getD-set-same x i (oneIf b) 0 l) (small b)
+          inside (yes l) = rw (← e, getD-set-same x i (oneIf b) 0 l) (at-most-one b)
           inside (no l) = rw (set-out x (s .decision) (oneIf b) (omega arith)) (h i)
 
   play-is : (s : Step) → s .decision < length x → (k : ℕ) → isOne (play s x) k ≡ cond (eqb k (s .decision)) (bit (s .choices) (maskAt (isOne x) (s .near))) (isOne x k)

@@ -204,14 +204,15 @@ pub to-nbrs : (g : Graph) (i j : ℕ) → j < g .n → isZeroZ (edge g i j) ≡ 
 unfolding neighbours
 to-nbrs g i j l h = to-those (λ j. not (isZeroZ (edge g i j))) j (upto (g .n)) (in-upto j (g .n) l) (not-off h)
 
+pub neighbours-apart : (g : Graph) (i : ℕ) → Apart (g .n) (neighbours g i)
+unfolding neighbours
+neighbours-apart g i = apart-those (λ j. not (isZeroZ (edge g i j))) (apart-upto (g .n))
+
 pub network : (g : Graph) → Shaped g → Network (g .n) (neighbours g)
 unfolding neighbours
 network g s = record {
   few = s .few;
-  apart = λ i. neighbours-apart i;
+  apart = neighbours-apart g;
   self = λ i l. refuse (mem i (neighbours g i)) (λ t. clash (ap isZeroZ (s .self i l)) (in-nbrs g i i t .1));
   both = λ i j l m. let p = in-nbrs g i j m in to-nbrs g j i l (ap isZeroZ (s .both j i (p .0) l) ∙ p .1);
 }
-  where
-    neighbours-apart : (i : ℕ) → Apart (g .n) (neighbours g i)
-    neighbours-apart i = apart-those (λ j. not (isZeroZ (edge g i j))) (apart-upto (g .n))

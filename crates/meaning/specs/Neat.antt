@@ -17,8 +17,8 @@ use Rattle.rules.specs.SmallBlock.{boundary}
 use Rattle.meaning.specs.CostLaws.{Shaped, clear-zero}
 use Rattle.whole.specs.Pigeon.{Apart, none, one}
 use Rattle.whole.specs.Tests.{clash, refuse, off-not, and-true}
-use Rattle.whole.specs.Members.{in-those, upto-in, apart-below, apart-those, apart-upto}
-use Rattle.meaning.specs.Growth.{Network, in-nbrs, to-nbrs}
+use Rattle.whole.specs.Members.{in-those, upto-in, apart-below}
+use Rattle.meaning.specs.Growth.{Network, neighbours-apart, in-nbrs, to-nbrs}
 use Rattle.meaning.specs.Found.{Tidy, some-witness}
 
 abbrev pub Live : Graph → ℕ → Type 0
@@ -42,7 +42,7 @@ pub neat-network : (g : Graph) → Shaped g → Neat g → Network 64 (neighbour
 unfolding neighbours
 neat-network g s w = record {
   few = omega arith;
-  apart = λ i. wider (s .few) (apart-those (λ j. not (isZeroZ (edge g i j))) (apart-upto (g .n)));
+  apart = λ i. wider (s .few) (neighbours-apart g i);
   self = λ i l. refuse (mem i (neighbours g i)) (λ t. let p = in-nbrs g i i t in clash (ap isZeroZ (s .self i (p .0))) (p .1));
   both = λ i j l m.
       let p = in-nbrs g i j m in

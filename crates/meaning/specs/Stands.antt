@@ -14,7 +14,7 @@ use borrow.Author.Tests.{eqb-true, eqb-false}
 use Rattle.whole.specs.Words.{isZeroZ, mem}
 use Rattle.whole.specs.Pigeon.{Apart, none, one}
 use Rattle.whole.specs.Tests.{cases, clash, refuse, on-not, off-not}
-use Rattle.whole.specs.Members.{in-head, in-tail, out-cons, apart-those, apart-upto}
+use Rattle.whole.specs.Members.{in-head, in-tail, out-cons}
 use Rattle.rules.specs.Graph.{Graph, lin, edge, active, neighbours, addConstant, addLinear, addEdge, dropTo}
 use Rattle.rules.specs.Fixing.{spread, fix}
 use Rattle.rules.specs.Eliminate.{absorb, tee, eliminate}
@@ -190,10 +190,6 @@ alive-marked (i ∷ is) ss k a m = let p = out-cons k i is m in alive-marked is 
 
 -- ---- the reductions
 module _ (g : Graph) (f : Fine g) where
-  pub neighbours-apart : (i : ℕ) → Apart (g .n) (neighbours g i)
-  unfolding neighbours
-  neighbours-apart i = apart-those (λ j. not (isZeroZ (edge g i j))) (apart-upto (g .n))
-
   -- a neighbour is active, and still is once i has left
   pub neighbours-alive : (t i : ℕ) → i < g .n → (j : ℕ) → mem j (neighbours g i) ≡ true → Alive (g .n) (set (g .states) i t) j
   neighbours-alive t i li j m =

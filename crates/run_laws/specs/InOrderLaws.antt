@@ -36,7 +36,7 @@ use Rattle.run_laws.specs.InOrder.{Counted, InOrder, Room}
 one-more : (steps : List Step) (s : Step) → length (steps ++ s ∷ []) ≡ length steps + 1
 one-more steps s = length-append steps (s ∷ [])
 
-at-most-one : (b : Bool) → oneIf b ≤ 1
+pub at-most-one : (b : Bool) → oneIf b ≤ 1
 at-most-one true = omega arith
 at-most-one false = omega arith
 

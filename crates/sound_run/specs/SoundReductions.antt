@@ -28,7 +28,8 @@ use Rattle.meaning.specs.BlockCost.{mask-below, boundary-outside, pair-of}
 use Rattle.meaning.specs.Found.{SmallBlock, found-block, found-live, found-least}
 use Rattle.meaning.specs.Neat.{neat-tidy, boundary-live}
 use Rattle.meaning.specs.BlockSteps.{choice-is, played, block-grown-back}
-use Rattle.meaning.specs.Stands.{Fine, Alive, Stands, marked, alive-other, neighbours-apart, neighbours-alive, eliminate-stands, three-stands, contract-stands, block-stands}
+use Rattle.meaning.specs.Growth.{neighbours-apart}
+use Rattle.meaning.specs.Stands.{Fine, Alive, Stands, marked, alive-other, neighbours-alive, eliminate-stands, three-stands, contract-stands, block-stands}
 use Rattle.objective_cost.specs.FixLaws.{cost-ext, reduced-plan, setAt}
 use Rattle.sound_run.specs.Sound.{Taken, Steps, decisions, Sound}
 use Rattle.sound_run.specs.Ascending.{ascending-upto, bits-below}
@@ -72,12 +73,12 @@ module _ (g : Graph) (f : Fine g) (i : ℕ) (a : Alive (g .n) (g .states) i) whe
 
   pub eliminate-sound : degree g i ≤ 2 → Sound g (stepOf g i ∷ []) (eliminate i g)
   eliminate-sound h =
-      let p : Pair (g .n) (neighbours g i) = pair-of (neighbours-apart g f i) h in
+      let p : Pair (g .n) (neighbours g i) = pair-of (neighbours-apart g i) h in
       absorbed-sound (omega arith) (eliminate-stands g f i (a .0) p) (eliminate-absorbed g i (f .shaped) (a .0) p)
 
   pub three-sound : degree g i ≡ 3 → cubic g i ≡ false → Sound g (stepOf g i ∷ []) (eliminate3 i g)
   three-sound h c =
-      let p : Triple (g .n) (neighbours g i) = triple-of (neighbours-apart g f i) h in
+      let p : Triple (g .n) (neighbours g i) = triple-of (neighbours-apart g i) h in
       absorbed-sound (omega arith) (three-stands g f i (a .0) p) (three-absorbed g i (f .shaped) (a .0) p c)
 
   module _ (j : ℕ) (m : mem j (neighbours g i) ≡ true) where
