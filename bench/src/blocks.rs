@@ -18,7 +18,7 @@ pub fn told(budget: u64) -> String {
     let head = ["record", "read", "read+write", "write", "grow back", "project"];
     format!(
         "blocks a second, of a record with n 64; read is a check, read+write a copy, write the difference\n\
-         of their times; growing back and projecting read the block too\n\n{}\n{}\n\
+         of a copy and of one that its last test refuses; growing back and projecting read the block too\n\n{}\n{}\n\
          reduce of no decisions, both outputs and the block written: {:.2} microseconds a call\n",
         line(&head.map(String::from)),
         rows.concat(),
@@ -33,19 +33,37 @@ fn row(o: &Objective, budget: u64) -> String {
     let answer = vec![1; lent.counts[6] as usize];
     let mut full = [0; 64];
     calls::grow_back(&block, &answer, &mut full).unwrap();
-    let (mut copied, mut plan, mut out) = ([0; 512], [0; 64], [0; 64]);
-    let [check, copy, grow, project] = best(
+    let spoiled = with_a_step_too_many(block.clone());
+    let (mut copied, mut kept, mut plan, mut out) = ([0; 512], [0; 512], [0; 64], [0; 64]);
+    let [check, copy, unwritten, grow, project] = best(
         budget,
         [
             &mut batch(|| calls::check(black_box(&block))),
             &mut batch(|| calls::copy(black_box(&block), &mut copied)),
+            &mut batch(|| match calls::copy(black_box(&spoiled), &mut kept) {
+                Err(Refusal::BlockBody) => Ok(()),
+                other => panic!("a spoiled block: {other:?}"),
+            }),
             &mut batch(|| calls::grow_back(black_box(&block), &answer, &mut plan)),
             &mut batch(|| calls::project(black_box(&block), &full, &mut out)),
         ],
     );
-    let cells = [check, copy, copy - check, grow, project].map(a_second);
+    let cells = [check, copy, copy - unwritten, grow, project].map(a_second);
     let [check, copy, write, grow, project] = cells;
     line(&[format!("{} steps", block[2]), check, copy, write, grow, project])
+}
+
+/// The same block but for the last place of its steps, which no step uses, with its check right: a copy
+/// reads it whole, finds that in its last test, and writes nothing.
+fn with_a_step_too_many(mut block: Vec<u8>) -> Vec<u8> {
+    block[459] = 1;
+    let (s1, s2) = block[..508].iter().fold((1u16, 0u16), |(s1, s2), &byte| {
+        let gained = s1.wrapping_add(byte.into());
+        (gained, s2.wrapping_add(gained))
+    });
+    block[508..510].copy_from_slice(&s1.to_le_bytes());
+    block[510..].copy_from_slice(&s2.to_le_bytes());
+    block
 }
 
 /// From a batch's microseconds; a difference can be lost in what the machine does besides.
