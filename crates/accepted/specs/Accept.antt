@@ -1,7 +1,7 @@
 -- What is known of an objective that is not refused.
 -- Assumes nothing.
 use mathlib.Core.Path.{_≡_, refl}
-use mathlib.Core.Bool.{Bool, true, false, cond, not}
+use mathlib.Core.Bool.{Bool, true, false, not}
 use mathlib.Core.List.{List, [], _∷_}
 use Prim.Native.Nat.{ℕ, zero, suc, _+_, _<_, _≤_}
 use native.Mathlib.Omega.{arith}
@@ -9,7 +9,7 @@ use lib.Dec.{ltb, leb, eqb}
 use lib.ListN.{length, getD}
 use borrow.Author.Tests.{ltb-false, leb-false, eqb-true}
 use Rattle.whole.specs.Words.{some, oneOf}
-use Rattle.whole.specs.Tests.{or-false}
+use Rattle.whole.specs.Tests.{or-false, row-off}
 use Rattle.rules.specs.Objective.{Objective, objective, weightOf}
 use Rattle.rules.specs.Refuse.{firstRow, badLengths, badIndex, badFixing, tooHeavy, reduceRefusal}
 
@@ -57,14 +57,10 @@ abbrev Numbered : List (ℕ × Bool) → Type 0
 Numbered [] = Unit
 Numbered (r ∷ rs) = (r .0 ≡ 0 → ⊥) × Numbered rs
 
-row : (k : ℕ) (t : Bool) (r : ℕ) → (k ≡ 0 → ⊥) → cond t k r ≡ 0 → (t ≡ false) × (r ≡ 0)
-row k true r n e = absurd (n e)
-row k false r n e = (refl, e)
-
 rows : (rs : List (ℕ × Bool)) → Numbered rs → firstRow rs ≡ 0 → NoRow rs
 unfolding firstRow
 rows [] n e = tt
-rows (r ∷ rs) n e = let h = row (r .0) (r .1) (firstRow rs) (n .0) e in (h .0, rows rs (n .1) (h .1))
+rows (r ∷ rs) n e = let h = row-off (r .0) (r .1) (firstRow rs) (n .0) e in (h .0, rows rs (n .1) (h .1))
 
 abbrev NoTest : List Bool → Type 0
 NoTest [] = Unit

@@ -4,7 +4,8 @@ use mathlib.Core.Path.{_≡_, refl, ap, _∙_}
 use mathlib.Core.List.{List, [], _∷_, _++_}
 use Prim.Native.Nat.{ℕ, zero, suc, _+_, _*_, _<_, _≤_}
 use native.Mathlib.Omega.{arith}
-use lib.ListN.{getD, set, replicate}
+use native.Mathlib.Numerals.{add-one}
+use lib.ListN.{getD, set, drop, replicate}
 use lib.Seq.{getD-set-other}
 use lib.IntN.{ℤ, pos, natAbs, _+ℤ_}
 use Rattle.whole.specs.Parts.{natAbs-parts}
@@ -24,6 +25,14 @@ unfolding weightOf
 weight-at [] k = omega arith
 weight-at (x ∷ l) zero = omega arith
 weight-at (x ∷ l) (suc k) = omega (arith, weight-at l k)
+
+-- what is left of a list's weight
+pub weight-rest : (l : List ℤ) (k : ℕ) → weightOf (drop k l) ≡ natAbs (getD l k (pos 0)) + weightOf (drop (k + 1) l)
+unfolding weightOf
+weight-rest [] zero = omega arith
+weight-rest [] (suc k) = rw add-one (omega arith)
+weight-rest (x ∷ l) zero = omega arith
+weight-rest (x ∷ l) (suc k) = rw add-one (rw add-one at (weight-rest l k))
 
 pub weight-set : (l : List ℤ) (k : ℕ) (v : ℤ) → weightOf (set l k v) + natAbs (getD l k (pos 0)) ≤ weightOf l + natAbs v
 unfolding weightOf

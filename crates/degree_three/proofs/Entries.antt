@@ -13,14 +13,11 @@ use Rattle.whole.specs.Words.{tab}
 use Rattle.rules.specs.DegreeThree.{pass, moebius}
 use Rattle.accepted.specs.Small.{Small}
 use Rattle.size_rule.specs.Sizes.{pass-size}
-use Rattle.low_degree.proofs.Laws.{fit}
+use Rattle.whole.specs.Fits.{fit}
 
 -- a difference that fits, kept and read back
 pub read-sub : {x y a b : ℤ} → x ≡ a → y ≡ b → SFits w64 (a -ℤ b) → toZ w64 (ofZ w64 (x -ℤ y)) ≡ a -ℤ b
 read-sub p q f = rw (p, q) (rd f)
-
-pub cons-same : {x y : ℤ} {xs ys : List ℤ} → x ≡ y → xs ≡ ys → x ∷ xs ≡ y ∷ ys
-cons-same p q = rw (p, q)
 
 pub record Entries (t : List ℤ) : Type 0 where
   pub t0 : SFits w64 (getD t 0 (pos 0))

@@ -14,7 +14,7 @@ use Rattle.whole.specs.Words.{from, upto, those}
 use Rattle.whole.specs.Those.{those-append}
 use Rattle.whole.specs.Members.{apart-at, apart-those, apart-upto}
 use Rattle.whole.specs.Sum.{Σ<, Σ-cong}
-use Rattle.meaning.specs.Cost.{when, when-zero, sum-zero, rowCost, costOf}
+use Rattle.meaning.specs.Cost.{when, when-zero, row-zero, rowCost, costOf}
 
 -- ---- those that pass
 from-append : (k a b : ℕ) → from k (a + b) ≡ from k a ++ from (k + a) b
@@ -109,9 +109,7 @@ module _ (p : ℕ → Bool) where
       inside k l = apart-at n (those p (upto n)) k (apart-those p (apart-upto n)) l
 
       empty-row : (m : ℕ) → m < n → p m ≡ false → rowCost a w x m ≡ pos 0
-      empty-row m l t =
-          ap₂ (λ (u v : ℤ). when (x m) (u +ℤ v)) (h m t) (sum-zero (λ j. when (x j) (w m j)) m (λ j b. ap (when (x j)) (across m j l (omega arith) t) ∙ when-zero (x j)))
-          ∙ when-zero (x m)
+      empty-row m l t = row-zero a w x m (h m t) (λ j b. across m j l (omega arith) t)
 
       same-row : (k : ℕ) → k < count n → rowCost a w x (rest k) ≡ rowCost (λ k. a (rest k)) (λ k l. w (rest k) (rest l)) (λ k. x (rest k)) k
       same-row k l =

@@ -21,7 +21,7 @@ use Rattle.accepted.specs.Accept.{Fit, accept}
 use Rattle.meaning.specs.CostLaws.{cost}
 use Rattle.meaning.specs.BlockSteps.{played}
 use Rattle.objective_cost.specs.ObjectiveCost.{Keeps}
-use Rattle.objective_cost.specs.FixLaws.{cost-ext}
+use Rattle.meaning.specs.BlockCost.{cost-ext}
 use Rattle.objective_cost.specs.Theorems.{start-cost-kept}
 use Rattle.sound_run.specs.Sound.{decisions}
 use Rattle.sound_run.specs.SoundStart.{ended-sound}

@@ -21,7 +21,8 @@ use Rattle.whole.specs.Words.{isZeroZ, below0, above0}
 use Rattle.whole.specs.Masks.{these, these-end as ended}
 use Rattle.rules.specs.Graph.{Graph, edge}
 use Rattle.rules.specs.DominantEdge.{nothing, at, negatives, positives, lo, hi, dominates, weak, first}
-use Rattle.low_degree.proofs.Laws.{fit, sum-fits, read-below}
+use Rattle.whole.specs.Fits.{fit, sum-fits}
+use Rattle.low_degree.proofs.Laws.{read-below}
 use Rattle.dominant_edge.specs.Answer.{verdictOf, testOf}
 use Rattle.dominant_edge.proofs.Taking.{parts}
 

@@ -21,7 +21,7 @@ use Rattle.whole.specs.Lists.{tab-at}
 use Rattle.whole.specs.Masks.{these, these-below, these-apart, first-in}
 use Rattle.whole.specs.Members.{in-tail, apart-new}
 use Rattle.whole.specs.Pigeon.{Apart}
-use Rattle.low_degree.proofs.Laws.{fit, read}
+use Rattle.whole.specs.Fits.{fit, read}
 use Rattle.size_rule.specs.Sizes.{neg-size, gain-size}
 use Rattle.rules.specs.Graph.{Graph, lin, edge, neighbours, addConstant, addLinear, addEdge, dropTo}
 use Rattle.rules.specs.Eliminate.{step}

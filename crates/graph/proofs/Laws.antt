@@ -1,8 +1,8 @@
 -- Turns of the loops that build and fix, and bounds.
 use mathlib.Core.Path.{_≡_, sym, ap, _∙_}
 use mathlib.Core.Bool.{Bool, true, false, cond, not}
-use mathlib.Core.List.{List, [], _∷_, _++_}
-use Prim.Native.Nat.{ℕ, zero, suc, _+_, _*_, _-_, _<_, _≤_}
+use mathlib.Core.List.{List, _++_}
+use Prim.Native.Nat.{ℕ, suc, _+_, _*_, _-_, _<_, _≤_}
 use native.Mathlib.Omega.{arith}
 use native.Mathlib.Numerals.{add-one}
 use lib.ListN.{length, getD, set, drop, take, replicate, drop-of-length-le}
@@ -13,30 +13,23 @@ use lib.IntN.{ℤ, pos, natAbs, _+ℤ_}
 use mir.Syntax.{w64}
 use mir.Val.{SFits}
 use Rattle.whole.specs.Parts.{natAbs-parts}
-use Rattle.whole.specs.Ints.{ints}
+use Rattle.whole.specs.Fits.{sum-fits}
 use Rattle.whole.specs.Words.{isZeroZ, from, those, tab}
 use Rattle.whole.specs.Lists.{tab-replicate, drop-replicate}
 use Rattle.whole.specs.Those.{rest-more, rest-same, rest-end}
-use Rattle.rules.specs.Graph.{Graph, graph, edge, addLinear, addEdge, addTerm, addTerms}
+use Rattle.rules.specs.Graph.{Graph, edge, addLinear, addEdge, addTerm, addTerms}
 use Rattle.rules.specs.Fixing.{spread, fix, fixAll}
 use Rattle.rules.specs.Objective.{weightOf}
 use Rattle.accepted.specs.Mass.{weight-at, weight-set, weight-gain, abs-add}
 use Rattle.graph.specs.Held.{Does}
 
+-- two numbers of the mass
+pub mass-fits : (a b : ℤ) → natAbs a + natAbs b ≤ 4398046511104 → SFits w64 (a +ℤ b)
+mass-fits a b h = sum-fits a b (omega (arith, natAbs-parts a)) (omega (arith, natAbs-parts b))
+
 -- an entry gains v
 pub gain-fits : (l : List ℤ) (k : ℕ) (v : ℤ) → weightOf l + natAbs v ≤ 4398046511104 → SFits w64 (getD l k (pos 0) +ℤ v)
-gain-fits l k v h = simp ints (omega (arith, weight-at l k, natAbs-parts (getD l k (pos 0)), natAbs-parts v))
-
-pub sum-fits : (a b : ℤ) → natAbs a + natAbs b ≤ 4398046511104 → SFits w64 (a +ℤ b)
-sum-fits a b h = simp ints (omega (arith, natAbs-parts a, natAbs-parts b))
-
--- what is left of a list's weight
-pub weight-rest : (l : List ℤ) (k : ℕ) → weightOf (drop k l) ≡ natAbs (getD l k (pos 0)) + weightOf (drop (k + 1) l)
-unfolding weightOf
-weight-rest [] zero = omega arith
-weight-rest [] (suc k) = rw add-one (omega arith)
-weight-rest (x ∷ l) zero = omega arith
-weight-rest (x ∷ l) (suc k) = rw add-one (rw add-one at (weight-rest l k))
+gain-fits l k v h = mass-fits (getD l k (pos 0)) v (omega (arith, weight-at l k))
 
 module _ (is js : List ℕ) (ws : List ℤ) (k : ℕ) (g : Graph) where
   pub terms-turn : k < length is → length js ≡ length is → length ws ≡ length is
@@ -109,10 +102,3 @@ module _ (i j : ℕ) (w : ℤ) (l e : List ℤ) where
 
 pub states-end : (n k : ℕ) (ss : List ℕ) → n ≤ 64 → k ≡ n → ss ≡ tab (λ k. 2) k ++ drop k (replicate 64 0) → ss ≡ replicate n 2 ++ replicate (64 - n) 0
 states-end n k ss h e d = d ∙ rw (e, tab-replicate {A = ℕ} 2 n, drop-replicate {A = ℕ} n 64 0 h)
-
-pub lin-gain : (m j : ℕ) (b : ℤ) (l l′ e : List ℤ) (ss : List ℕ) (x w v : ℤ) → l′ ≡ set l j (getD l j (pos 0) +ℤ x) → x ≡ w → w ≡ v → addLinear j v (graph m b l e ss) ≡ graph m b l′ e ss
-unfolding addLinear
-lin-gain m j b l l′ e ss x w v h p q = rw (h, p, q)
-
-pub abs-fits : (z : ℤ) → natAbs z ≤ 4398046511104 → SFits w64 z
-abs-fits z h = simp ints (omega (arith, natAbs-parts z))

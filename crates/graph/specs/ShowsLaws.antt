@@ -17,7 +17,7 @@ use Rattle.whole.specs.Tests.{cases, clash, and-true, and-both}
 use Rattle.whole.specs.Members.{upto-in}
 use Rattle.whole.specs.Masks.{these, those-ext, bit-none}
 use Rattle.whole.specs.Those.{those-upto}
-use Rattle.whole.specs.Lists.{replicate-at}
+use Rattle.whole.specs.Lists.{replicate-at, below-set}
 use Rattle.rules.specs.Graph.{graph, neighbours, noEdges}
 use Rattle.graph.specs.Shows.{Shows, noMasks}
 use Rattle.graph.specs.NearLaws.{there}
@@ -64,13 +64,6 @@ Marked m l x r = (t : ℕ) → t < 64 → bit r t ≡ cond (eqb t l) (isEdge x) 
 
 abbrev Bits : List ℤ → List ℕ → Type 0
 Bits e m = (i j : ℕ) → i < 64 → j < 64 → bit (getD m i 0) j ≡ isEdge (cell e i j)
-
-fits-set : (m : List ℕ) (k r : ℕ) → k < length m → ((i : ℕ) → getD m i 0 < 2 ^ 64) → r < 2 ^ 64 → (i : ℕ) → getD (set m k r) i 0 < 2 ^ 64
-fits-set m k r l f h i = go (ℕ-discrete i k)
-  where
-    go : Dec (i ≡ k) → getD (set m k r) i 0 < 2 ^ 64
-    go (yes t) = omega (arith, ap (λ (j : ℕ). getD (set m k r) j 0) t, getD-set-same m k r 0 l)
-    go (no d) = omega (arith, getD-set-other m k i r 0 d, f i)
 
 module _ (e : List ℤ) (k l : ℕ) (x : ℤ) (edges-long : length e ≡ 4096) (hk : k < 64) (hl : l < 64) where
   cell-same : cell (set e (64 * k + l) x) k l ≡ x
@@ -143,7 +136,7 @@ module _ (n : ℕ) (e : List ℤ) (m : List ℕ) (s : Shows n e m) (k l : ℕ) (
       record {
         long = length-set (set m k r) l t ∙ half-masks;
         edges-long = length-set (set e (64 * k + l) x) (64 * l + k) x ∙ half-long;
-        fits = fits-set (set m k r) l t (omega arith) (fits-set m k r (omega (arith, s .long)) (s .fits) fr) ft;
+        fits = below-set (2 ^ 64) (set m k r) l t (omega arith) ft (below-set (2 ^ 64) m k r (omega (arith, s .long)) fr (s .fits));
         bits = half (set e (64 * k + l) x) l k x half-long hl hk (set m k r) t half-masks (half e k l x (s .edges-long) hk hl m r (s .long) (s .bits) wr) wt;
         both = turned-both;
         none = λ i j hi hj h. off i j hj (λ u v. omega arith) (λ u v. omega arith) ∙ s .none i j hi hj h;

@@ -11,9 +11,10 @@ use mir.Syntax.{w64}
 use mir.Val.{SFits, toZ, ofZ}
 use Rattle.whole.specs.Parts.{∣_∣}
 use Rattle.whole.specs.Ints.{ints, rd}
+use Rattle.whole.specs.Fits.{fit, read, sum-fits}
 use Rattle.whole.specs.Words.{tab, chosen, bitsFrom, below0}
 use Rattle.whole.specs.Cmp.{lt-ind}
-use Rattle.whole.specs.Lists.{tab-at}
+use Rattle.whole.specs.Lists.{tab-at, cons-same}
 use Rattle.rules.specs.Graph.{Graph, neighbours, addConstant, addLinear, addEdge, dropTo}
 use Rattle.rules.specs.Eliminate.{tee, absorb, eliminate}
 use Rattle.graph.specs.Near.{three, nearOf}
@@ -24,16 +25,6 @@ use Rattle.accepted.specs.Small.{Small}
 use Rattle.size_rule.specs.Sizes.{delta-size}
 use Rattle.graph.specs.declared.Frame.{Frame}
 use Rattle.low_degree.specs.Table.{deltasOf}
-
--- a weight that is small is read back as it is
-pub fit : (z : ℤ) → ∣ z ∣ ≤ 2 ^ 60 → SFits w64 z
-fit z h = simp ints (omega arith)
-
-pub read : (z : ℤ) → ∣ z ∣ ≤ 2 ^ 60 → toZ w64 (ofZ w64 z) ≡ z
-read z h = rd (fit z h)
-
-pub sum-fits : (a b : ℤ) → ∣ a ∣ ≤ 2 ^ 60 → ∣ b ∣ ≤ 2 ^ 60 → SFits w64 (a +ℤ b)
-sum-fits a b h k = simp ints (omega arith)
 
 -- the smaller of a weight and 0, kept and read back
 pub read-below : (z r : ℤ) → SFits w64 z → r ≡ below0 (toZ w64 (ofZ w64 z)) → toZ w64 (ofZ w64 r) ≡ below0 z
@@ -90,10 +81,7 @@ module _ (a : ℤ) (ws : List ℤ) where
 
   pub deltas-are : a ∷ (a +ℤ x) ∷ (a +ℤ y) ∷ (a +ℤ x +ℤ y) ∷ (a +ℤ z) ∷ (a +ℤ x +ℤ z) ∷ (a +ℤ y +ℤ z) ∷ (a +ℤ x +ℤ y +ℤ z) ∷ [] ≡ deltasOf a ws
   unfolding deltasOf tab
-  deltas-are = let r = sums in same (r .e0) (same (r .e1) (same (r .e2) (same (r .e3) (same (r .e4) (same (r .e5) (same (r .e6) (same (r .e7) refl)))))))
-    where
-      same : {u v : ℤ} {us vs : List ℤ} → u ≡ v → us ≡ vs → u ∷ us ≡ v ∷ vs
-      same p q = rw (p, q)
+  deltas-are = let r = sums in cons-same (r .e0) (cons-same (r .e1) (cons-same (r .e2) (cons-same (r .e3) (cons-same (r .e4) (cons-same (r .e5) (cons-same (r .e6) (cons-same (r .e7) refl)))))))
 
   -- each of them fits
   pub record Fits : Type 0 where
@@ -183,7 +171,7 @@ gains t s =
 
 -- a weight of a small list gains a small one
 pub gain-fits : {b : ℕ} {l : List ℤ} (k : ℕ) (v : ℤ) → Small b l → b ≤ 2 ^ 60 → ∣ v ∣ ≤ 2 ^ 60 → SFits w64 (getD l k (pos 0) +ℤ v)
-gain-fits {b} {l} k v s h i = simp ints (omega (arith, s .each k))
+gain-fits {b} {l} k v s h i = sum-fits (getD l k (pos 0)) v (omega (arith, s .each k)) i
 
 module _ (t : ℕ → ℤ) (f g : Frame) (l e : List ℤ) (j k : ℕ) (h : g ≡ withConstant f (f .constant +ℤ t 0)) where
   abbrev near : ℕ → List ℕ

@@ -1,8 +1,8 @@
 -- The table of masks is the rules' own, for every degree up to three.
 -- Assumes nothing.
 use mathlib.Core.Path.{_≡_, refl, ap, ap₂, _∙_, sym, subst}
-use mathlib.Core.Bool.{Bool, true, false, cond}
-use mathlib.Core.List.{List, [], _∷_, _++_}
+use mathlib.Core.Bool.{Bool}
+use mathlib.Core.List.{List, [], _∷_}
 use Prim.Native.Nat.{ℕ, zero, suc, _+_, _*_, _/_, _^_, _<_, _≤_}
 use native.Mathlib.Omega.{arith}
 use lib.ListN.{length, getD, length-map}
@@ -10,6 +10,7 @@ use lib.Pow.{pow-mono}
 use lib.IntN.{ℤ, pos, _+ℤ_}
 use lib.Signed.{ltZ}
 use Rattle.whole.specs.Parts.{∣_∣}
+use Rattle.whole.specs.Tests.{either-way}
 use Rattle.whole.specs.Words.{tab, odd, chosen, bitsFrom, oneIf, below0}
 use Rattle.whole.specs.Lists.{tab-at, tab-same}
 use Rattle.rules.specs.Graph.{Graph, lin, edge, neighbours, degree, row}
@@ -24,15 +25,11 @@ use Rattle.graph.specs.declared.Near.{Near}
 use Rattle.low_degree.specs.Table.{deltasOf, teesOf, choicesOf, stepFrom}
 
 -- ---- over the degree: a missing neighbour's weight is 0
-none : (t : Bool) → cond t (pos 0) (pos 0) ≡ pos 0
-none true = refl
-none false = refl
-
 chosen-three : (ws : List ℤ) (m : ℕ) → length ws ≤ 3 → chosen (three ws (pos 0)) m ≡ chosen ws m
 unfolding chosen
-chosen-three [] m h = rw (none (odd m), none (odd (m / 2)), none (odd (m / 2 / 2)))
-chosen-three (x ∷ []) m h = rw (none (odd (m / 2)), none (odd (m / 2 / 2)))
-chosen-three (x ∷ y ∷ []) m h = rw (none (odd (m / 2 / 2)))
+chosen-three [] m h = rw (either-way (odd m) (pos 0), either-way (odd (m / 2)) (pos 0), either-way (odd (m / 2 / 2)) (pos 0))
+chosen-three (x ∷ []) m h = rw (either-way (odd (m / 2)) (pos 0), either-way (odd (m / 2 / 2)) (pos 0))
+chosen-three (x ∷ y ∷ []) m h = rw (either-way (odd (m / 2 / 2)) (pos 0))
 chosen-three (x ∷ y ∷ z ∷ []) m h = refl
 chosen-three (x ∷ y ∷ z ∷ w ∷ ws) m h = absurd (omega arith)
 

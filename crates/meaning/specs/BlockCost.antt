@@ -22,12 +22,12 @@ use Rattle.whole.specs.Words.{isZeroZ, odd, oneIf, upto, mem, those, some, chos
 use Rattle.rules.specs.Graph.{Graph, lin, edge, row, dropTo}
 use Rattle.rules.specs.SmallBlock.{boundary, inner, cheapest, bestMask, blockTable, dropAll, eliminateBlock}
 use Rattle.whole.specs.Sum.{Σ-cong}
-use Rattle.meaning.specs.Cost.{shift-≤, regroup, when, when-zero, sum-zero, rowCost, costOf, deltaOf}
+use Rattle.meaning.specs.Cost.{shift-≤, regroup, swap-last, when, when-zero, row-zero, rowCost, costOf, deltaOf}
 use Rattle.meaning.specs.CostLaws.{cost, Shaped, drop-cost, clear-zero, clear-other}
 use Rattle.meaning.specs.EliminateLaws.{maskAt, odd-of, half-of, chosen-mask, zero-of, shaped-drop, Pair, empty, single, double, absorb-cost}
 use Rattle.whole.specs.Pigeon.{Apart, none, one}
 use Rattle.whole.specs.Tests.{cases, clash, and-both, not-off, on-not, off-not, refuse}
-use Rattle.whole.specs.Members.{in-cons, in-head, in-tail, out-append, out-cons, out-of-cons, differ, in-those, to-those, in-upto, some-true, apart-head, apart-new, apart-tail, apart-left, apart-right, apart-below, apart-join, apart-those, apart-upto}
+use Rattle.whole.specs.Members.{nobody, in-cons, in-head, in-tail, out-append, out-cons, out-of-cons, differ, in-those, to-those, in-upto, some-true, apart-head, apart-new, apart-tail, apart-left, apart-right, apart-below, apart-join, apart-those, apart-upto}
 use Rattle.meaning.specs.OverLists.{over-append, over-all}
 
 -- ---- what dropping i leaves alone, and what it makes 0
@@ -119,12 +119,9 @@ module _ (x : ℕ → Bool) (out : List ℕ) where
       ∙ ap (λ (z : ℤ). cost (dropAll is (dropTo 3 i g)) x +ℤ z)
       (drop-inner g s i li out is (maskAt x out) (maskAt x is) (apart-right is out rest) (no .1) (apart-left is out rest) (no .0)))
       (member-delta g i is s a h)
-      ∙ turn (cost (dropAll is (dropTo 3 i g)) x) (inner g out (maskAt x out) is (maskAt x is)) (when (x i) (lin g i +ℤ chosen (row g i out) (maskAt x out) +ℤ chosen (row g i is) (maskAt x is)))
+      ∙ swap-last (cost (dropAll is (dropTo 3 i g)) x) (inner g out (maskAt x out) is (maskAt x is)) (when (x i) (lin g i +ℤ chosen (row g i out) (maskAt x out) +ℤ chosen (row g i is) (maskAt x is)))
       ∙ ap₂ (λ (c : Bool) (m : ℕ). cost (dropAll is (dropTo 3 i g)) x +ℤ (when c (lin g i +ℤ chosen (row g i out) (maskAt x out) +ℤ chosen (row g i is) m) +ℤ inner g out (maskAt x out) is m))
       (sym (odd-of (x i) (maskAt x is))) (sym (half-of (x i) (maskAt x is)))
-    where
-      turn : (a b c : ℤ) → a +ℤ b +ℤ c ≡ a +ℤ (c +ℤ b)
-      turn a b c = simp ints (omega zarith)
 
 -- ---- the cheapest mask
 pub cheapest-in : (c : ℕ → ℤ) (k : ℕ) → cheapest c k ≤ k
@@ -275,15 +272,16 @@ gone-cost g x y b h e = ap (λ (z : ℤ). g .constant +ℤ z) (Σ-cong (g .n) (r
         (λ m. ap (λ (c : Bool). when c (edge g k j)) (e j m))
 
     empty-row : (u : ℕ → Bool) (k : ℕ) → k < g .n → mem k b ≡ true → rowCost (lin g) (edge g) u k ≡ pos 0
-    empty-row u k lk m =
-        ap₂ (λ (p q : ℤ). when (u k) (p +ℤ q)) (h k m .weight)
-        (sum-zero (λ j. when (u j) (edge g k j)) k (λ j l. ap (when (u j)) (h k m .across j (omega arith)) ∙ when-zero (u j)))
-        ∙ when-zero (u k)
+    empty-row u k lk m = row-zero (lin g) (edge g) u k (h k m .weight) (λ j l. h k m .across j (omega arith))
 
     rows : (k : ℕ) → k < g .n → rowCost (lin g) (edge g) x k ≡ rowCost (lin g) (edge g) y k
     rows k lk = cases (mem k b)
         (λ m. empty-row x k lk m ∙ sym (empty-row y k lk m))
         (λ m. ap₂ (λ (c : Bool) (z : ℤ). when c (lin g k +ℤ z)) (e k m) (Σ-cong k (λ j. when (x j) (edge g k j)) (λ j. when (y j) (edge g k j)) (λ j l. pulls k j lk (omega arith))))
+
+-- plans that are the same everywhere cost the same
+pub cost-ext : (g : Graph) (x y : ℕ → Bool) → ((k : ℕ) → x k ≡ y k) → cost g x ≡ cost g y
+cost-ext g x y h = gone-cost g x y [] (λ k m. nobody k m) (λ k m. h k)
 
 -- ---- the boundary
 pub boundary-apart : (g : Graph) (b : List ℕ) → Apart (g .n) (boundary g b)

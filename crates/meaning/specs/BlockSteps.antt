@@ -17,7 +17,7 @@ use Rattle.meaning.specs.CostLaws.{cost, Shaped}
 use Rattle.meaning.specs.EliminateLaws.{maskAt, odd-of, half-of}
 use Rattle.whole.specs.Tests.{refuse, clash}
 use Rattle.whole.specs.Members.{in-tail}
-use Rattle.meaning.specs.BlockCost.{put, put-other, mask-ext, mask-below, boundary-outside, gone-cost}
+use Rattle.meaning.specs.BlockCost.{put, put-other, mask-ext, mask-below, boundary-outside, cost-ext}
 use Rattle.meaning.specs.Found.{found-plan}
 use Rattle.whole.specs.Masks.{bit-half, bit-first}
 
@@ -85,10 +85,5 @@ module _ (g : Graph) (b : List ℕ) (x : ℕ → Bool) where
 -- the reduced cost of a plan is the old cost of the plan grown back through the block's steps
 pub block-grown-back : (g : Graph) (b : List ℕ) → Shaped g → findBlock g ≡ members b → (x : ℕ → Bool)
     → cost (eliminateBlock b g) x ≡ cost g (played (blockSteps g b 0 b) x)
-unfolding mem
 block-grown-back g b s e x =
-    found-plan g b s e x ∙ gone-cost g (put b (bestMask g b (maskAt x (boundary g b))) x) (played (blockSteps g b 0 b) x) []
-    (λ k m. nobody k m) (λ k m. sym (steps-settle g b x k))
-  where
-    nobody : (k : ℕ) {P : Type 0} → mem k [] ≡ true → P
-    nobody k m = clash m refl
+    found-plan g b s e x ∙ cost-ext g (put b (bestMask g b (maskAt x (boundary g b))) x) (played (blockSteps g b 0 b) x) (λ k. sym (steps-settle g b x k))

@@ -15,7 +15,7 @@ use Rattle.whole.specs.Words.{mem}
 use Rattle.rules.specs.Graph.{Graph, lin, edge, neighbours, addConstant, addLinear, addEdge, dropTo}
 use Rattle.rules.specs.DominantEdge.{turn, move, contract}
 use Rattle.whole.specs.Sum.{Σ<, Σ-cong, Σ-split}
-use Rattle.meaning.specs.Cost.{when, when-zero, sum-zero, deltaOf}
+use Rattle.meaning.specs.Cost.{swap-last, last-second, when, when-zero, sum-zero, deltaOf}
 use Rattle.meaning.specs.CostLaws.{cost, Shaped, base-cost, lin-cost, edge-cost, drop-cost}
 use Rattle.meaning.specs.AbsorbLaws.{shaped-base, shaped-lin, shaped-edge}
 use Rattle.meaning.specs.EliminateLaws.{shaped-drop, over, over-nbrs}
@@ -71,13 +71,9 @@ moved-sum g i j x =
     gone k true e = refl
     gone k false e = ap (λ (z : ℤ). when (x j) (when (x k) z)) e ∙ ap (when (x j)) (when-zero (x k)) ∙ when-zero (x j)
 
-    nought : (c : Bool) → cond c (pos 0) (pos 0) ≡ pos 0
-    nought true = refl
-    nought false = refl
-
     pull : (b : Bool) → Σ< (g .n) (λ k. but j (when b (when (x k) (edge g i k))) k) ≡ when b (Σ< (g .n) (λ k. but j (when (x k) (edge g i k)) k))
     pull true = refl
-    pull false = sum-zero (λ k. but j (pos 0) k) (g .n) (λ k l. nought (eqb k j))
+    pull false = sum-zero (λ k. but j (pos 0) k) (g .n) (λ k l. when-zero (eqb k j))
 
 -- w not positive: x of i becomes x of j
 pub move-reduces : (g : Graph) (i j : ℕ) → Shaped g → i < g .n → j < g .n → ltZ (pos 0) (edge g i j) ≡ false → ReducedBy i (λ x. x j) g (contract i j g)
@@ -102,22 +98,16 @@ move-reduces g i j s li lj h = record { costs = λ x. all x }
         ∙ ap (λ (z : ℤ). z +ℤ own)
         (move-cost g i j x (neighbours g i) e (shaped-lin j (lin g i +ℤ edge g i j) d sd) lj (λ k m. in-nbrs g i k m .0)
         ∙ ap₂ (λ (u v : ℤ). u +ℤ v) (lin-cost d x j (lin g i +ℤ edge g i j) sd lj) (moved-sum g i j x))
-        ∙ sort (cost d x) (when (x j) (lin g i +ℤ edge g i j)) (when (x j) (offSum g i j x)) own
+        ∙ last-second (cost d x) (when (x j) (lin g i +ℤ edge g i j)) (when (x j) (offSum g i j x)) own
         ∙ ap₂ (λ (u v : ℤ). u +ℤ v) (sym (drop-cost g x 3 i s li)) (sums (x j) refl)
       where
         own : ℤ
         own = when (x i) (deltaOf (g .n) (lin g) (edge g) x i)
 
-        sort : (a b c u : ℤ) → a +ℤ b +ℤ c +ℤ u ≡ a +ℤ u +ℤ (b +ℤ c)
-        sort a b c u = simp ints (omega zarith)
-
-        swap : (a b c : ℤ) → a +ℤ b +ℤ c ≡ a +ℤ (c +ℤ b)
-        swap a b c = simp ints (omega zarith)
-
         sums : (b : Bool) → x j ≡ b → when b (lin g i +ℤ edge g i j) +ℤ when b (offSum g i j x) ≡ when b (deltaOf (g .n) (lin g) (edge g) x i)
         sums false p = refl
         sums true p =
-            swap (lin g i) (edge g i j) (offSum g i j x)
+            swap-last (lin g i) (edge g i j) (offSum g i j x)
             ∙ ap (λ (z : ℤ). lin g i +ℤ z) (ap (λ (b : Bool). offSum g i j x +ℤ when b (edge g i j)) (sym p) ∙ sym (split-off g i j x lj))
 
 -- w positive: x of i becomes 1 − x of j

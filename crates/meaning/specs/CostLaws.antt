@@ -27,11 +27,15 @@ pub record Shaped (g : Graph) : Type 0 where
   pub both : (i j : ℕ) → i < g .n → j < g .n → edge g i j ≡ edge g j i
   pub self : (i : ℕ) → i < g .n → edge g i i ≡ pos 0
 
+-- a decision is below 64
+pub in64 : {g : Graph} → Shaped g → (k : ℕ) → k < g .n → k < 64
+in64 s k l = omega (arith, s .few)
+
 -- a cell's place says its row and its column
-row-of : (i j k l : ℕ) → j < 64 → l < 64 → 64 * i + j ≡ 64 * k + l → i ≡ k
+pub row-of : (i j k l : ℕ) → j < 64 → l < 64 → 64 * i + j ≡ 64 * k + l → i ≡ k
 row-of i j k l p q e = omega arith
 
-col-of : (i j k l : ℕ) → j < 64 → l < 64 → 64 * i + j ≡ 64 * k + l → j ≡ l
+pub col-of : (i j k l : ℕ) → j < 64 → l < 64 → 64 * i + j ≡ 64 * k + l → j ≡ l
 col-of i j k l p q e = omega arith
 
 pub base-cost : (g : Graph) (x : ℕ → Bool) (v : ℤ) → cost (addConstant v g) x ≡ cost g x +ℤ v

@@ -14,7 +14,7 @@ use Rattle.rules.specs.Graph.{Graph, lin, edge, neighbours, dropTo}
 use Rattle.rules.specs.Eliminate.{absorb, delta}
 use Rattle.whole.specs.Sum.{Σ<}
 use Rattle.meaning.specs.Cost.{when, when-zero, deltaOf}
-use Rattle.meaning.specs.CostLaws.{cost, Shaped, clear-length, clear-zero, clear-other}
+use Rattle.meaning.specs.CostLaws.{cost, Shaped, in64, clear-length, clear-zero, clear-other}
 use Rattle.meaning.specs.AbsorbLaws.{none-of, one-of, two-of}
 
 -- the mask of some decisions' values
@@ -105,14 +105,11 @@ shaped-drop t i g s li = record {
   self = λ p lp. own p lp (ℕ-discrete p i);
 }
   where
-    in64 : (p : ℕ) → p < g .n → p < 64
-    in64 p lp = omega (arith, s .few)
-
     zeros : (q : ℕ) → q < g .n → (edge (dropTo t i g) i q ≡ pos 0) × (edge (dropTo t i g) q i ≡ pos 0)
-    zeros q lq = clear-zero i (g .edges) q (in64 i li) (in64 q lq) (s .edges-long) (g .n) (s .few) lq
+    zeros q lq = clear-zero i (g .edges) q (in64 s i li) (in64 s q lq) (s .edges-long) (g .n) (s .few) lq
 
     stands : (p q : ℕ) → p < g .n → q < g .n → p ≢ i → q ≢ i → edge (dropTo t i g) p q ≡ edge g p q
-    stands p q lp lq np nq = clear-other i (g .edges) p q (in64 i li) (in64 p lp) (in64 q lq) np nq (g .n) (s .few)
+    stands p q lp lq np nq = clear-other i (g .edges) p q (in64 s i li) (in64 s p lp) (in64 s q lq) np nq (g .n) (s .few)
 
     go : (p q : ℕ) → p < g .n → q < g .n → Dec (p ≡ i) → Dec (q ≡ i) → edge (dropTo t i g) p q ≡ edge (dropTo t i g) q p
     go p q lp lq (yes e) d =

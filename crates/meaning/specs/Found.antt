@@ -16,7 +16,7 @@ use Rattle.rules.specs.SmallBlock.{component, isCut, Block, none, members, smal
 use Rattle.meaning.specs.EliminateLaws.{maskAt}
 use Rattle.whole.specs.Pigeon.{Apart}
 use Rattle.whole.specs.Tests.{clash, refuse, on-not, off-not, and-true, or-true}
-use Rattle.whole.specs.Members.{in-cons, in-head, in-tail, in-left, in-those, upto-in, few, apart-below}
+use Rattle.whole.specs.Members.{in-single, in-head, in-tail, in-left, in-those, upto-in, few, apart-below}
 use Rattle.meaning.specs.Growth.{Grown, component-grown, to-nbrs, network}
 use Rattle.meaning.specs.BlockCost.{boundary-apart, put, block-plan, block-least}
 
@@ -36,13 +36,14 @@ in-actives : (g : Graph) (k : ℕ) → mem k (actives g) ≡ true → (k < g .n)
 unfolding actives
 in-actives g k h = let p = in-those (λ i. active g i) k (upto (g .n)) h in (upto-in k (g .n) (p .0), p .1)
 
+-- what is returned is none or members, not both
+pub none-members : {b : List ℕ} → none ≡ members b → ⊥
+none-members e = let z : _≡_ {A = ℕ} 0 1 = cc in omega arith
+
 among-taken : (g : Graph) (aside seen ss b : List ℕ) → ((k : ℕ) → mem k aside ≡ true → mem k seen ≡ true) → ((k : ℕ) → mem k ss ≡ true → mem k (actives g) ≡ true)
     → among (neighbours g) aside seen ss ≡ members b → Taken g aside b
 unfolding among
-among-taken g aside seen [] b h live e = absurd (never e)
-  where
-    never : none ≡ members b → ⊥
-    never e = let z : _≡_ {A = ℕ} 0 1 = cc in omega arith
+among-taken g aside seen [] b h live e = absurd (none-members e)
 among-taken g aside seen (s ∷ ss) b h live e = first (mem s seen) refl e
     (λ t. among-taken g aside seen ss b h (λ k m. live k (in-tail k s ss m)) t)
     (λ t. among-taken g aside (seen ++ component (neighbours g) aside s) ss b (λ k m. in-left k seen (component (neighbours g) aside s) (h k m)) (λ k m. live k (in-tail k s ss m)) t)
@@ -81,10 +82,7 @@ pub record Cut (g : Graph) (removed b : List ℕ) : Type 0 where
 over-cuts : (g : Graph) (removed cs b : List ℕ) → ((k : ℕ) → mem k cs ≡ true → mem k (actives g) ≡ true)
     → overCuts (neighbours g) (actives g) removed cs ≡ members b → Cut g removed b
 unfolding overCuts
-over-cuts g removed [] b h e = absurd (never e)
-  where
-    never : none ≡ members b → ⊥
-    never e = let z : _≡_ {A = ℕ} 0 1 = cc in omega arith
+over-cuts g removed [] b h e = absurd (none-members e)
 over-cuts g removed (c ∷ cs) b h e = test (isCut (neighbours g) removed c) refl e (λ t. over-cuts g removed cs b (λ k m. h k (in-tail k c cs m)) t)
   where
     test : (t : Bool) → isCut (neighbours g) removed c ≡ t
@@ -112,10 +110,7 @@ pub record FoundBy (g : Graph) (b : List ℕ) : Type 0 where
 
 over-removed : (g : Graph) (rs b : List ℕ) → ((k : ℕ) → mem k rs ≡ true → mem k (actives g) ≡ true) → overRemoved (neighbours g) (actives g) rs ≡ members b → FoundBy g b
 unfolding overRemoved
-over-removed g [] b h e = absurd (never e)
-  where
-    never : none ≡ members b → ⊥
-    never e = let z : _≡_ {A = ℕ} 0 1 = cc in omega arith
+over-removed g [] b h e = absurd (none-members e)
 over-removed g (r ∷ rs) b h e = either (overCuts (neighbours g) (actives g) (r ∷ []) (actives g)) (overRemoved (neighbours g) (actives g) rs) b e
     (λ t. record { removed = r ∷ []; lone = single (h r (in-head r rs)); by = over-cuts g (r ∷ []) (actives g) b (λ k m. m) t })
     (λ t. over-removed g rs b (λ k m. h k (in-tail k r rs m)) t)
@@ -180,12 +175,8 @@ module _ (g : Graph) (b : List ℕ) (s : Shaped g) (e : findBlock g ≡ members 
 
   -- its members are active, where an edge leads to an active decision only
   pub found-live : Tidy g → (k : ℕ) → mem k b ≡ true → active g k ≡ true
-  unfolding mem
   found-live tidy = found-grown .least (active g) (λ i j a li e m. tidy i j li e)
-      (λ k m. in-cons k seed [] m (λ q. ap (active g) q ∙ in-actives g seed (by .by .taken .live) .1) (λ q. nobody k q))
-    where
-      nobody : (k : ℕ) {P : Type 0} → mem k [] ≡ true → P
-      nobody k h = clash h refl
+      (λ k m. ap (active g) (in-single k seed m) ∙ in-actives g seed (by .by .taken .live) .1)
 
   -- demand 3 of a block step: the reduced cost is a cost of the graph before, and no plan costs less than its reduced cost
   pub found-plan : (x : ℕ → Bool) → cost (eliminateBlock b g) x ≡ cost g (put b (bestMask g b (maskAt x (boundary g b))) x)

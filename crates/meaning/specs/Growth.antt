@@ -14,7 +14,7 @@ use Rattle.meaning.specs.CostLaws.{Shaped}
 use Rattle.rules.specs.SmallBlock.{fresh, grow, component, besides, isCut}
 use Rattle.whole.specs.Pigeon.{Apart, none, one, pigeon}
 use Rattle.whole.specs.Tests.{or-none, or-left, cases, clash, refuse, not-off, not-on, on-not, off-not, same-test}
-use Rattle.whole.specs.Members.{in-cons, in-head, in-append, in-left, in-right, out-append, out-both, in-those, to-those, in-upto, upto-in, some-false, some-none, apart-join, apart-those, apart-upto, apart-below}
+use Rattle.whole.specs.Members.{nobody, in-single, in-head, in-append, in-left, in-right, out-append, out-both, in-those, to-those, in-upto, upto-in, some-false, some-none, apart-join, apart-those, apart-upto, apart-below}
 
 -- n decisions and their neighbours: different decisions below n, none its own, each the other's
 pub record Network (n : ℕ) (near : ℕ → List ℕ) : Type 0 where
@@ -61,14 +61,11 @@ module _ (n : ℕ) (near : ℕ → List ℕ) (net : Network n near) (aside : Lis
         (refuse (mem k (fresh near aside l i)) (λ t. clash m (in-fresh l i k t .1))));
     through = λ k j mk lk e m. rw (regroup old new (fresh near aside l i) i) (in-append k old (i ∷ []) mk
         (λ t. in-left j l (fresh near aside l i) (w .through k j t lk e m))
-        (λ t. in-cons k i [] t (λ q. found j (subst (λ (h : ℕ). mem j (near h) ≡ true) q e) m) (λ q. nobody k q)));
+        (λ t. found j (subst (λ (h : ℕ). mem j (near h) ≡ true) (in-single k i t) e) m));
   }
     where
       l : List ℕ
       l = old ++ i ∷ new
-
-      nobody : (k : ℕ) {P : Type 0} → mem k [] ≡ true → P
-      nobody k h = clash h refl
 
       found : (j : ℕ) → mem j (near i) ≡ true → mem j aside ≡ false → mem j (l ++ fresh near aside l i) ≡ true
       found j e m = cases (mem j l)
@@ -120,8 +117,8 @@ module _ (n : ℕ) (near : ℕ → List ℕ) (net : Network n near) (aside : Lis
   unfolding mem
   begins s l m = record {
     apart = one l refl none;
-    avoids = λ k h. refuse (mem k (s ∷ [])) (λ t. in-cons k s [] t (λ e. clash h (ap (λ (j : ℕ). mem j aside) e ∙ m)) (λ q. clash q refl));
-    through = λ i j h li e q. clash h refl;
+    avoids = λ k h. refuse (mem k (s ∷ [])) (λ t. clash h (ap (λ (j : ℕ). mem j aside) (in-single k s t) ∙ m));
+    through = λ i j h li e q. nobody i h;
   }
 
   pub component-grown : (s : ℕ) → s < n → mem s aside ≡ false → Grown n near aside (s ∷ []) (component near aside s)
@@ -136,8 +133,7 @@ module _ (n : ℕ) (near : ℕ → List ℕ) (net : Network n near) (aside : Lis
       (refuse (mem j (component near aside v)) (λ z. clash (cv .closed j i z (apart-below j (net .apart i) e) (net .both i j li e) (p .0)) (p .1))))
 
   only : (u : ℕ) (S : ℕ → Bool) → S u ≡ true → (k : ℕ) → mem k (u ∷ []) ≡ true → S k ≡ true
-  unfolding mem
-  only u S h k m = in-cons k u [] m (λ e. ap S e ∙ h) (λ q. clash q refl)
+  only u S h k m = ap S (in-single k u m) ∙ h
 
   -- v is reached from u: so is u from v
   pub component-back : (u v : ℕ) → u < n → v < n → mem u aside ≡ false → mem v aside ≡ false

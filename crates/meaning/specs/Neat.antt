@@ -14,7 +14,7 @@ use lib.IntN.{ℤ, pos, _+ℤ_}
 use Rattle.whole.specs.Words.{isZeroZ, upto, mem, some}
 use Rattle.rules.specs.Graph.{Graph, edge, active, neighbours, addConstant, addLinear, addEdge, clear, dropTo}
 use Rattle.rules.specs.SmallBlock.{boundary}
-use Rattle.meaning.specs.CostLaws.{Shaped, clear-zero}
+use Rattle.meaning.specs.CostLaws.{Shaped, in64, row-of, col-of, clear-zero}
 use Rattle.whole.specs.Pigeon.{Apart, none, one}
 use Rattle.whole.specs.Tests.{clash, refuse, off-not, and-true}
 use Rattle.whole.specs.Members.{in-those, upto-in, apart-below}
@@ -46,12 +46,9 @@ neat-network g s w = record {
   self = λ i l. refuse (mem i (neighbours g i)) (λ t. let p = in-nbrs g i i t in clash (ap isZeroZ (s .self i (p .0))) (p .1));
   both = λ i j l m.
       let p = in-nbrs g i j m in
-      let e = w .ends i j l (low j (p .0)) (p .1) in
+      let e = w .ends i j l (in64 s j (p .0)) (p .1) in
       to-nbrs g j i (e .0 .0) (ap isZeroZ (s .both j i (p .0) (e .0 .0)) ∙ p .1);
 }
-  where
-    low : (j : ℕ) → j < g .n → j < 64
-    low j b = omega (arith, s .few)
 
 -- ---- kept by the updates
 pub neat-base : (v : ℤ) (g : Graph) → Neat g → Neat (addConstant v g)
@@ -66,18 +63,15 @@ pub neat-edge : (k l : ℕ) (v : ℤ) (g : Graph) → Shaped g → Neat g → Li
 unfolding addEdge
 neat-edge k l v g s w lk ll = record { ends = λ i j li lj e. go i j li lj e (ℕ-discrete (64 * i + j) (64 * l + k)) (ℕ-discrete (64 * i + j) (64 * k + l)) }
   where
-    in64 : (m : ℕ) → m < g .n → m < 64
-    in64 m b = omega (arith, s .few)
-
     place : (i j p q : ℕ) → j < 64 → q < 64 → 64 * i + j ≡ 64 * p + q → (i ≡ p) × (j ≡ q)
-    place i j p q lj lq e = (omega arith, omega arith)
+    place i j p q lj lq e = (row-of i j p q lj lq e, col-of i j p q lj lq e)
 
     at : (i j p q : ℕ) → Live g p → Live g q → (i ≡ p) × (j ≡ q) → Live g i × Live g j
     at i j p q a b e = (subst (Live g) (sym (e .0)) a, subst (Live g) (sym (e .1)) b)
 
     go : (i j : ℕ) → i < 64 → j < 64 → isZeroZ (edge (addEdge k l v g) i j) ≡ false → Dec (64 * i + j ≡ 64 * l + k) → Dec (64 * i + j ≡ 64 * k + l) → Live g i × Live g j
-    go i j li lj e (yes p) d = at i j l k ll lk (place i j l k lj (in64 k (lk .0)) p)
-    go i j li lj e (no p) (yes q) = at i j k l lk ll (place i j k l lj (in64 l (ll .0)) q)
+    go i j li lj e (yes p) d = at i j l k ll lk (place i j l k lj (in64 s k (lk .0)) p)
+    go i j li lj e (no p) (yes q) = at i j k l lk ll (place i j k l lj (in64 s l (ll .0)) q)
     go i j li lj e (no p) (no q) =
         w .ends i j li lj (ap isZeroZ (sym (getD-set-other (set (g .edges) (64 * k + l) (edge g k l +ℤ v)) (64 * l + k) (64 * i + j) (edge g l k +ℤ v) (pos 0) p
         ∙ getD-set-other (g .edges) (64 * k + l) (64 * i + j) (edge g k l +ℤ v) (pos 0) q)) ∙ e)
@@ -124,7 +118,4 @@ boundary-live g b s w a k h =
     let p = in-those (λ j. not (mem j b) && some (λ i. not (isZeroZ (edge g i j))) b) k (upto (g .n)) h in
     let q = and-true (not (mem k b)) (some (λ i. not (isZeroZ (edge g i k))) b) (p .1) in
     some-witness (λ i. not (isZeroZ (edge g i k))) b (q .1)
-    (λ i mi e. w .ends i k (low i (apart-below i a mi)) (low k (upto-in k (g .n) (p .0))) (off-not (isZeroZ (edge g i k)) e) .1)
-  where
-    low : (j : ℕ) → j < g .n → j < 64
-    low j b = omega (arith, s .few)
+    (λ i mi e. w .ends i k (in64 s i (apart-below i a mi)) (in64 s k (upto-in k (g .n) (p .0))) (off-not (isZeroZ (edge g i k)) e) .1)

@@ -10,13 +10,12 @@ use lib.Dec.{T, ltb→lt}
 use native.Mathlib.Nat.{not-suc-le-zero}
 use lib.IntN.{ℤ, pos, negsuc, _+ℤ_, +ℤ-assoc, +ℤ-idr}
 use lib.Signed.{ltZ, _≤ℤ_, ≤ℤ-refl, ltZ-no, leZ-yes}
-use Rattle.whole.specs.Ints.{ints, zarith}
 use Rattle.whole.specs.Words.{mem}
 use Rattle.rules.specs.Graph.{Graph, lin, edge, neighbours, addConstant, addLinear, dropTo}
 use Rattle.rules.specs.Fixing.{spread, fix}
 use Rattle.rules.specs.Eliminate.{chooses, tee, eliminate}
 use Rattle.whole.specs.Sum.{Σ<}
-use Rattle.meaning.specs.Cost.{shift-≤, regroup, when, when-zero, deltaOf}
+use Rattle.meaning.specs.Cost.{shift-≤, regroup, last-second, when, when-zero, deltaOf}
 use Rattle.meaning.specs.CostLaws.{cost, Shaped, base-cost, lin-cost, drop-cost}
 use Rattle.meaning.specs.AbsorbLaws.{shaped-base, shaped-lin}
 use Rattle.meaning.specs.EliminateLaws.{maskAt, Pair, delta-at, shaped-drop, absorb-cost, over, over-nbrs}
@@ -123,8 +122,5 @@ fix-1-reduces g i s li = record { costs = λ x. all x }
         (spread-cost g i x (neighbours g i) (addConstant (lin g i) d) (shaped-base (lin g i) d (shaped-drop 1 i g s li)) (λ k m. in-nbrs g i k m .0)
         ∙ ap₂ (λ (u v : ℤ). u +ℤ v) (base-cost d x (lin g i))
         (over-nbrs g i (λ k. when (x k) (edge g i k)) (λ k e. ap (when (x k)) e ∙ when-zero (x k))))
-        ∙ sort (cost d x) (lin g i) (Σ< (g .n) (λ k. when (x k) (edge g i k))) (when (x i) (deltaOf (g .n) (lin g) (edge g) x i))
+        ∙ last-second (cost d x) (lin g i) (Σ< (g .n) (λ k. when (x k) (edge g i k))) (when (x i) (deltaOf (g .n) (lin g) (edge g) x i))
         ∙ ap (λ (z : ℤ). z +ℤ deltaOf (g .n) (lin g) (edge g) x i) (sym (drop-cost g x 1 i s li))
-      where
-        sort : (a p b u : ℤ) → a +ℤ p +ℤ b +ℤ u ≡ a +ℤ u +ℤ (p +ℤ b)
-        sort a p b u = simp ints (omega zarith)

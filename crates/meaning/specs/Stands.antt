@@ -21,7 +21,7 @@ use Rattle.rules.specs.Eliminate.{absorb, tee, eliminate}
 use Rattle.rules.specs.DegreeThree.{addPairs, absorb3, moebius, eliminate3}
 use Rattle.rules.specs.DominantEdge.{positive, turn, move, contract}
 use Rattle.rules.specs.SmallBlock.{dropAll, boundary, blockTable, eliminateBlock, findBlock, members}
-use Rattle.meaning.specs.CostLaws.{Shaped}
+use Rattle.meaning.specs.CostLaws.{Shaped, in64}
 use Rattle.meaning.specs.AbsorbLaws.{shaped-base, shaped-lin, shaped-edge}
 use Rattle.meaning.specs.EliminateLaws.{zero-of, shaped-drop, Pair, empty, single, double}
 use Rattle.meaning.specs.DegreeThreeLaws.{Triple, triple}
@@ -56,13 +56,10 @@ stands-here g f = record { size = refl; states = refl; fine = f }
 pub gone-of : (g : Graph) (i : ℕ) → Fine g → i < g .n → active g i ≡ false → Gone g i
 gone-of g i f li h = record {
   weight = f .light i h;
-  across = λ j lj. zero-of (edge g i j) (on-not (isZeroZ (edge g i j)) (refuse (not (isZeroZ (edge g i j))) (λ t. clash (f .neat .ends i j (in64 i li) (in64 j lj) (off (edge g i j) t) .0 .1) h)));
-  down = λ j lj. zero-of (edge g j i) (on-not (isZeroZ (edge g j i)) (refuse (not (isZeroZ (edge g j i))) (λ t. clash (f .neat .ends j i (in64 j lj) (in64 i li) (off (edge g j i) t) .1 .1) h)));
+  across = λ j lj. zero-of (edge g i j) (on-not (isZeroZ (edge g i j)) (refuse (not (isZeroZ (edge g i j))) (λ t. clash (f .neat .ends i j (in64 (f .shaped) i li) (in64 (f .shaped) j lj) (off (edge g i j) t) .0 .1) h)));
+  down = λ j lj. zero-of (edge g j i) (on-not (isZeroZ (edge g j i)) (refuse (not (isZeroZ (edge g j i))) (λ t. clash (f .neat .ends j i (in64 (f .shaped) j lj) (in64 (f .shaped) i li) (off (edge g j i) t) .1 .1) h)));
 }
   where
-    in64 : (k : ℕ) → k < g .n → k < 64
-    in64 k l = omega (arith, f .shaped .few)
-
     off : (z : ℤ) → not (isZeroZ z) ≡ true → isZeroZ z ≡ false
     off z t = off-not (isZeroZ z) t
 
@@ -194,11 +191,8 @@ module _ (g : Graph) (f : Fine g) where
   pub neighbours-alive : (t i : ℕ) → i < g .n → (j : ℕ) → mem j (neighbours g i) ≡ true → Alive (g .n) (set (g .states) i t) j
   neighbours-alive t i li j m =
       let p = in-nbrs g i j m in
-      let q = f .neat .ends i j (in64 i li) (in64 j (p .0)) (p .1) .1 in
+      let q = f .neat .ends i j (in64 (f .shaped) i li) (in64 (f .shaped) j (p .0)) (p .1) .1 in
       alive-other (g .states) t i j q (λ e. clash (ap isZeroZ (ap (edge g i) e ∙ f .shaped .self i li)) (p .1))
-    where
-      in64 : (k : ℕ) → k < g .n → k < 64
-      in64 k l = omega (arith, f .shaped .few)
 
   module _ (i : ℕ) (li : i < g .n) where
     dropped : (t : ℕ) → Stands (g .n) (set (g .states) i t) (dropTo t i g)

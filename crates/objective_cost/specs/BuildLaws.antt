@@ -15,7 +15,7 @@ use Rattle.whole.specs.Ints.{ints}
 use Rattle.rules.specs.Objective.{Objective}
 use Rattle.rules.specs.Graph.{Graph, lin, edge, addLinear, addEdge, addTerm, addTerms, noEdges, bare}
 use Rattle.whole.specs.Sum.{Σ<, Σ-cong}
-use Rattle.meaning.specs.Cost.{when, when-zero, sum-zero, rowCost, costOf}
+use Rattle.meaning.specs.Cost.{when, chosen-zero, rowCost, costOf}
 use Rattle.meaning.specs.CostLaws.{cost, Shaped, lin-cost, edge-cost}
 use Rattle.meaning.specs.AbsorbLaws.{shaped-lin, shaped-edge}
 use Rattle.objective_cost.specs.ObjectiveCost.{linearCost, termsCost}
@@ -78,7 +78,7 @@ module _ (o : Objective) (few : o .n ≤ 64) (long : length (o .weights) ≡ o .
       rows k l =
           let same : k ≡ 0 + k = omega arith in
           ap₂ (λ (u v : ℤ). when (x k) (u +ℤ v)) (bare-lin k l)
-          (sum-zero (λ j. when (x j) (edge (bare o) k j)) k (λ j m. ap (when (x j)) (bare-edge k j (omega arith) (omega arith)) ∙ when-zero (x j)))
+          (chosen-zero x (edge (bare o) k) k (λ j m. bare-edge k j (omega arith) (omega arith)))
           ∙ ap (when (x k)) (+ℤ-idr (getD (o .weights) k (pos 0)))
           ∙ ap (λ (m : ℕ). when (x m) (getD (o .weights) k (pos 0))) same
 

@@ -13,7 +13,6 @@ use lib.IntN.{ℤ, pos, _+ℤ_}
 use borrow.Author.Tests.{eq-eqb, ne-eqb, ltb-true}
 use Rattle.whole.specs.Words.{mem}
 use Rattle.whole.specs.Ints.{ints, zarith}
-use Rattle.whole.specs.Tests.{clash}
 use Rattle.whole.specs.Members.{out-cons}
 use Rattle.whole.specs.Pigeon.{none, one}
 use Rattle.rules.specs.Graph.{Graph, lin, edge, neighbours, addConstant, addLinear, dropTo}
@@ -24,14 +23,9 @@ use Rattle.meaning.specs.Cost.{when, when-zero, deltaOf}
 use Rattle.meaning.specs.CostLaws.{cost, Shaped, drop-cost}
 use Rattle.meaning.specs.AbsorbLaws.{shaped-base, shaped-lin}
 use Rattle.meaning.specs.EliminateLaws.{shaped-drop}
-use Rattle.meaning.specs.BlockCost.{gone-cost, drop-all-gone}
+use Rattle.meaning.specs.BlockCost.{cost-ext, gone-cost, drop-all-gone}
 use Rattle.meaning.specs.ReduceLaws.{ReducedBy, fix-0-reduces, fix-1-reduces}
 use Rattle.objective_cost.specs.ObjectiveCost.{withFixings, Keeps}
-
--- plans that are the same everywhere cost the same
-pub cost-ext : (g : Graph) (x y : ℕ → Bool) → ((k : ℕ) → x k ≡ y k) → cost g x ≡ cost g y
-unfolding mem
-cost-ext g x y h = gone-cost g x y [] (λ k m. clash m refl) (λ k m. h k)
 
 -- x with b at i
 abbrev pub setAt : ℕ → Bool → (ℕ → Bool) → ℕ → Bool

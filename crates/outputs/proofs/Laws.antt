@@ -5,10 +5,9 @@ use mathlib.Core.Bool.{Bool, true, false, cond, _&&_}
 use mathlib.Core.List.{List, [], _∷_, _++_, map}
 use native.Mathlib.Omega.{arith}
 use native.Mathlib.Numerals.{add-one}
-use native.Mathlib.Decide.{ℕ-discrete}
 use lib.Dec.{ltb}
 use lib.ListN.{getD, set, take, length, replicate, length-append, length-replicate, length-map, List·getD-append}
-use lib.Seq.{take-suc-set, append-snoc, getD-set-same, getD-set-other, getD-take, length-take-le, ext-getD}
+use lib.Seq.{take-suc-set, append-snoc, getD-take, length-take-le, ext-getD}
 use lib.IntN.{ℤ, pos}
 use borrow.Author.Tests.{ltb-true, ltb-false}
 use Rattle.whole.specs.Words.{those, from, upto, tab}
@@ -25,13 +24,6 @@ module _ (p : ℕ → Bool) (n i : ℕ) where
   pub listed : (l : List ℕ) (m : ℕ) (all : List ℕ) → m < length l → i < n → p i ≡ true → take m l ++ those p (from i (n - i)) ≡ all → take (m + 1) (set l m i) ++ those p (from (i + 1) (n - (i + 1))) ≡ all
   listed l m all h k e d =
       rw (add-one, take-suc-set l m i h) (append-snoc (take m l) i (those p (from (i + 1) (n - (i + 1)))) ∙ ap (λ (t : List ℕ). take m l ++ t) (sym (rest-more p n i k e)) ∙ d)
-
-pub below-set : (b : ℕ) (l : List ℕ) (m v : ℕ) → m < length l → v < b → ((k : ℕ) → getD l k 0 < b) → (k : ℕ) → getD (set l m v) k 0 < b
-below-set b l m v h hv f k = by (ℕ-discrete k m)
-  where
-    by : Dec (k ≡ m) → getD (set l m v) k 0 < b
-    by (yes e) = rw (e, getD-set-same l m v 0 h) hv
-    by (no e) = rw (getD-set-other l m k v 0 e) (f k)
 
 pub zero-at : (n k : ℕ) → getD (replicate n 0) k 0 < 64
 zero-at zero k = omega arith

@@ -6,7 +6,7 @@ use Prim.Native.Nat.{ℕ, suc, _+_, _*_, _<_, _≤_}
 use native.Mathlib.Omega.{arith}
 use native.Mathlib.Nat.{add-zero}
 use native.Mathlib.Numerals.{add-one}
-use lib.ListN.{length, getD, take, drop, set, length-map, drop-of-length-le}
+use lib.ListN.{length, getD, take, drop, set, drop-of-length-le}
 use lib.Seq.{sets, sets-eq, drop-cons, take-at, take-suc, take-suc-set}
 use Rattle.whole.specs.Words.{from}
 use Rattle.whole.specs.Those.{from-last}
@@ -67,7 +67,3 @@ steps-next l at k ss h =
 pub steps-over : (l : List ℕ) (i k : ℕ) (ss : List Step) → length ss ≤ k → sets l i (stepsBytes (drop k ss)) ≡ l
 unfolding stepsBytes
 steps-over l i k ss h = rw (drop-of-length-le ss h)
-
--- an array of structs has its length under a map
-pub length-mapped : (X Y : Type 0) (f : X → Y) (l : List X) (n : ℕ) → length (map f l) ≡ n → length l ≡ n
-length-mapped X Y f l n e = sym (length-map l f) ∙ e

@@ -8,7 +8,7 @@ use native.Mathlib.Numerals.{add-one}
 use lib.Dec.{ltb}
 use lib.ListN.{length, getD, drop, drop-of-length-le}
 use lib.Seq.{drop-cons}
-use lib.IntN.{ℤ, pos, natAbs}
+use lib.IntN.{ℤ}
 use native.Mathlib.Decide.{decLt}
 use borrow.Author.Tests.{lt-ltb, le-ltb}
 use Rattle.whole.specs.Words.{some}
@@ -26,10 +26,6 @@ module _ (p : ℕ → Bool) (l : List ℕ) (k : ℕ) where
   pub some-end : length l ≤ k → some p (drop k l) ≡ false
   unfolding some
   some-end h = rw (drop-of-length-le l h)
-
-pub weight-turn : (l : List ℤ) (k : ℕ) → k < length l → weightOf (drop k l) ≡ natAbs (getD l k (pos 0)) + weightOf (drop (k + 1) l)
-unfolding weightOf
-weight-turn l k h = rw (add-one, drop-cons l k (pos 0) h)
 
 pub weight-end : (l : List ℤ) (k : ℕ) → length l ≤ k → weightOf (drop k l) ≡ 0
 unfolding weightOf

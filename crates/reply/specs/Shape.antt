@@ -1,10 +1,8 @@
 -- Every outcome that is not refused has the shape that the writer asks for.
 -- Assumes nothing.
 use mathlib.Core.Path.{_≡_, subst}
-use mathlib.Core.List.{List, [], _∷_}
 use Prim.Native.Nat.{ℕ}
 use Rattle.rules.specs.Objective.{Objective}
-use Rattle.rules.specs.Eliminate.{Step}
 use Rattle.rules.specs.Run.{ended}
 use Rattle.rules.specs.Outcome.{outcomeOf, outcome}
 use Rattle.rules.specs.Refuse.{reduceRefusal}
@@ -13,19 +11,13 @@ use Rattle.sound_run.specs.SoundStart.{statesFrom}
 use Rattle.run_laws.specs.InOrderLaws.{ended-room}
 use Rattle.demand_three.specs.RunEnds.{endSteps, end-n, end-fine, end-taken}
 use Rattle.run_record.specs.RunRecord.{steps-narrow}
-use Rattle.roundtrip.specs.Steps as held
-use Rattle.write_text.specs.Bounds.{All, Near3}
 use Rattle.write_text.specs.HeldLaws.{Reported, outcome-reported}
-
-short : (ss : List Step) → held.Few ss → All Near3 ss
-short [] h = tt
-short (s ∷ ss) h = (h .0, short ss (h .1))
 
 of-fit : (o : Objective) → Fit o → Reported (o .n) (outcome o)
 unfolding outcome
 of-fit o fit =
     subst (λ (n : ℕ). Reported n (outcomeOf (ended o))) (end-n o fit) (outcome-reported (ended o) (ended-room o fit .n) (end-fine o fit .shaped .states-long) (ended-room o fit .steps)
-    (short (endSteps o) (steps-narrow (o .n) (statesFrom (o .n) (o .fixings)) (endSteps o) (end-taken o fit))))
+    (steps-narrow (o .n) (statesFrom (o .n) (o .fixings)) (endSteps o) (end-taken o fit)))
 
 pub reported : (o : Objective) → reduceRefusal o 64 4096 ≡ 0 → Reported (o .n) (outcome o)
 reported o h = of-fit o (accept o 64 4096 h .fit)

@@ -2,17 +2,17 @@
 -- Assumes nothing.
 use mathlib.Core.Path.{_≡_, refl, sym, ap, _∙_}
 use mathlib.Core.Logic.{_↔_}
-use mathlib.Core.Bool.{Bool, true, false, cond, not}
+use mathlib.Core.Bool.{true, false, not}
 use mathlib.Core.List.{List, [], _∷_, _++_, map}
-use Prim.Native.Nat.{ℕ, zero, suc, _+_, _*_, _^_, _<_, _≤_}
+use Prim.Native.Nat.{ℕ, _+_, _*_, _^_, _<_, _≤_}
 use native.Mathlib.Omega.{arith}
 use lib.Dec.{eqb, leb}
 use lib.IntN.{natAbs}
 use lib.ListN.{length, getD, take, drop, replicate, length-map, length-drop}
-use lib.Seq.{take-at, drop-at, drop-drop, take-add, take-all, length-take-le, getD-drop}
+use lib.Seq.{take-at, take-add, take-all, length-take-le, getD-drop}
 use borrow.Author.Tests.{eq-eqb, eqb-true, leb-true, not-false}
 use Rattle.whole.specs.Words.{from, upto, all, allOf}
-use Rattle.whole.specs.Tests.{and-true}
+use Rattle.whole.specs.Tests.{and-true, row-off}
 use Rattle.rules.specs.Record.{edition, little, fromLittle, twos, fromTwos, stepIn, body, check, checkRight, sealed, blockOf, recordIn, sound, broken, zerosIn, bodyBroken}
 use Rattle.rules.specs.Refuse.{firstRow, readRefusal}
 use Rattle.rules.specs.declared.Record.{Record}
@@ -72,17 +72,13 @@ pub record Accepted (b : List ℕ) : Type 0 where
   pub zeros : zerosIn b ≡ true
   pub unbroken : sound (recordIn b) ≡ true
 
-row : (k : ℕ) (t : Bool) (r : ℕ) → cond t (suc k) r ≡ 0 → (t ≡ false) × (r ≡ 0)
-row k true r e = absurd (omega arith)
-row k false r e = (refl, e)
-
 pub accept : (b : List ℕ) → readRefusal b ≡ 0 → Accepted b
 unfolding readRefusal firstRow
 accept b e =
-    let a = row 8 (not (eqb (length b) 512)) _ e in
-    let c = row 9 (not (checkRight b)) _ (a .1) in
-    let d = row 10 (not (eqb (getD b 0 0) edition)) _ (c .1) in
-    let f = row 11 (bodyBroken b) _ (d .1) in
+    let a = row-off 9 (not (eqb (length b) 512)) _ (λ z. omega arith) e in
+    let c = row-off 10 (not (checkRight b)) _ (λ z. omega arith) (a .1) in
+    let d = row-off 11 (not (eqb (getD b 0 0) edition)) _ (λ z. omega arith) (c .1) in
+    let f = row-off 12 (bodyBroken b) _ (λ z. omega arith) (d .1) in
     let g = and-true (zerosIn b) (sound (recordIn b)) (not-false _ (f .0)) in
     record {
       long = eqb-true (length b) 512 (not-false _ (a .0));

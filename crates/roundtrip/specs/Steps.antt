@@ -33,12 +33,14 @@ pub played-all : (ss : List rule.Step) → Few ss → map played (map hold ss) �
 played-all [] f = refl
 played-all (s ∷ ss) f = λ i. played-hold s (f .0) i ∷ played-all ss (f .1) i
 
+pub all-held : (ss : List rule.Step) → Few ss → map played (take (length ss) (holdAll ss)) ≡ ss
+unfolding holdAll
+all-held ss f = ap (map played) (take-at (map hold ss) (replicate (64 - length ss) noStep) (length ss) (length-map ss hold)) ∙ played-all ss f
+
 -- the record of a step list has that list for its steps, and the states of its n decisions
 pub steps-of-record : (n : ℕ) (c : ℤ) (states : List ℕ) (steps : List rule.Step) → Few steps → stepsOf (recordOf n c states steps) ≡ steps
-unfolding stepsOf holdAll
-steps-of-record n c states steps f =
-    ap (map played) (take-at (map hold steps) (replicate (64 - length steps) noStep) (length steps) (length-map steps hold))
-    ∙ played-all steps f
+unfolding stepsOf
+steps-of-record n c states steps f = all-held steps f
 
 pub states-of-record : (n : ℕ) (c : ℤ) (states : List ℕ) (steps : List rule.Step) → statesOf (recordOf n c states steps) ≡ take n states
 unfolding statesOf

@@ -9,20 +9,14 @@ use lib.Dec.{leb}
 use lib.ListN.{length}
 use Rattle.whole.specs.Words.{mem}
 use Rattle.whole.specs.Tests.{clash, refuse}
-use Rattle.whole.specs.Members.{in-cons, in-head, in-tail, in-append, in-left, few, apart-below}
+use Rattle.whole.specs.Members.{nobody, in-cons, in-head, in-tail, in-append, in-left, few, apart-below}
 use Rattle.rules.specs.SmallBlock.{component, isCut, Block, none, members, orElse, small, among, overCuts, overRemoved, search}
+use Rattle.meaning.specs.Found.{none-members}
 use Rattle.meaning.specs.Growth.{Network, Grown, component-grown, component-back, component-same}
-
-nobody : (k : ℕ) {P : Type 0} → mem k [] ≡ true → P
-unfolding mem
-nobody k m = clash m refl
 
 neither : (x y : Block) → orElse x y ≡ none → (x ≡ none) × (y ≡ none)
 neither none y e = (refl, e)
-neither (members b) y e = absurd (never e)
-  where
-    never : members b ≡ none → ⊥
-    never e = let z : _≡_ {A = ℕ} 0 1 = cc in omega arith
+neither (members b) y e = absurd (none-members (sym e))
 
 module _ (n : ℕ) (near : ℕ → List ℕ) (net : Network n near) where
   module _ (aside : List ℕ) where

@@ -1,12 +1,12 @@
 -- Growing a component follows paths.
 -- Assumes nothing.
-use mathlib.Core.Path.{_≡_, refl, sym, subst}
+use mathlib.Core.Path.{_≡_, sym, subst}
 use mathlib.Core.Bool.{true, false, not}
 use mathlib.Core.List.{List, [], _∷_, _++_}
-use Prim.Native.Nat.{ℕ, zero, suc, _+_, _<_}
+use Prim.Native.Nat.{ℕ, zero, suc, _<_}
 use Rattle.whole.specs.Words.{mem}
-use Rattle.whole.specs.Tests.{clash, off-not}
-use Rattle.whole.specs.Members.{in-cons, in-head, in-append, in-left, in-right, in-those, out-append, apart-below}
+use Rattle.whole.specs.Tests.{off-not}
+use Rattle.whole.specs.Members.{in-single, in-head, in-append, in-left, in-right, in-those, out-append, apart-below}
 use Rattle.rules.specs.SmallBlock.{fresh, grow, component}
 use Rattle.meaning.specs.Growth.{Network, Grown, regroup, component-grown}
 use Rattle.search_meaning.specs.Paths.{PathFrom, start, onward}
@@ -31,8 +31,7 @@ module _ (n : ℕ) (near : ℕ → List ℕ) (net : Network n near) (aside : Lis
           (λ t. further s i k (old ++ i ∷ new) (h i (in-right i old (i ∷ new) (in-head i new))) t)
 
   pub reached-path : (s k : ℕ) → mem s aside ≡ false → mem k (component near aside s) ≡ true → PathFrom near aside s k
-  unfolding mem
-  reached-path s k free m = grown-paths s 64 [] (s ∷ []) (λ j q. in-cons j s [] q (λ e. subst (λ (i : ℕ). PathFrom near aside s i) (sym e) (start free)) (λ z. clash z refl)) k m
+  reached-path s k free m = grown-paths s 64 [] (s ∷ []) (λ j q. subst (λ (i : ℕ). PathFrom near aside s i) (sym (in-single j s q)) (start free)) k m
 
   pub path-reached : (s : ℕ) {k : ℕ} → s < n → mem s aside ≡ false → PathFrom near aside s k → mem k (component near aside s) ≡ true
   path-reached s l free (start q) = component-grown n near net aside s l free .starts s (in-head s [])

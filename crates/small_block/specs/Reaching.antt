@@ -15,7 +15,7 @@ use borrow.Author.Tests.{eqb-true, eq-eqb}
 use Rattle.whole.specs.Words.{bit, mem, some}
 use Rattle.rules.specs.SmallBlock.{component}
 use Rattle.whole.specs.Tests.{cases, clash, refuse, or-true, or-false, or-left, or-right, and-true, and-both, not-off, not-on, on-not, off-not}
-use Rattle.whole.specs.Members.{in-cons, in-head, in-append, in-left, in-right, some-true, some-none, apart-below}
+use Rattle.whole.specs.Members.{in-cons, in-single, in-head, in-append, in-left, in-right, some-true, some-none, apart-below}
 use Rattle.meaning.specs.Growth.{Network, Grown, component-grown}
 use Rattle.whole.specs.Masks.{these, bit-or, bit-and, bit-less, bit-single, bit-none, mem-these, these-below, first-in, turn}
 use Rattle.small_block.specs.Held.{nearBy}
@@ -72,7 +72,6 @@ module _ (masks : List ℕ) (net : Network 64 (nearBy masks)) {aside : List ℕ}
 
   -- nothing is left to go through, and some of them is not reached
   pub reach-stop : todo ≡ 0 → left ≢ 0 → left < 2 ^ 64 → true ≡ some (λ v. not (mem v (component (nearBy masks) aside u))) (these around)
-  unfolding mem
   reach-stop e d l =
       let v = trailingZeros 64 left in
       let m : mem v (these left) ≡ true = first-in left d l in
@@ -87,10 +86,7 @@ module _ (masks : List ℕ) (net : Network 64 (nearBy masks)) {aside : List ℕ}
           (λ i j h li n mj.
           let p = and-true (bit seen i) (not (mem i aside)) h in
           and-both (w .through i j li (p .0) (off-not (mem i aside) (p .1)) (ap (λ (z : ℕ). bit z i) e ∙ bit-none i) n) (not-off mj))
-          (λ k q. in-cons k u [] q (λ z. subst (λ (m : ℕ). (bit seen m && not (mem m aside)) ≡ true) (sym z) (and-both (w .start) (not-off mu))) (λ z. nobody k z)) k t) .0
-        where
-          nobody : (k : ℕ) {P : Type 0} → mem k [] ≡ true → P
-          nobody k z = clash z refl
+          (λ k q. subst (λ (m : ℕ). (bit seen m && not (mem m aside)) ≡ true) (sym (in-single k u q)) (and-both (w .start) (not-off mu))) k t) .0
 
   module _ (d : todo ≢ 0) (lt : todo < 2 ^ 64) (ls : seen < 2 ^ 64) where
     abbrev j : ℕ

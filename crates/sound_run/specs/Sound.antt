@@ -16,7 +16,7 @@ use Rattle.meaning.specs.CostLaws.{cost}
 use Rattle.meaning.specs.BlockCost.{mask-ext}
 use Rattle.meaning.specs.BlockSteps.{played}
 use Rattle.meaning.specs.Stands.{Fine, Alive, Stands, stands-here, marked}
-use Rattle.objective_cost.specs.FixLaws.{cost-ext}
+use Rattle.meaning.specs.BlockCost.{cost-ext}
 
 -- a step taken among n decisions in the states ss: its decision is active, and each of its neighbours still is once the decision has left
 pub record Taken (n : ℕ) (ss : List ℕ) (s : Step) : Type 0 where

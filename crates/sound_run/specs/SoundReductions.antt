@@ -11,8 +11,7 @@ use lib.ListN.{length, set}
 use lib.Signed.{_≤ℤ_}
 use Rattle.whole.specs.Words.{isZeroZ, mem, some, all, bit, oneIf}
 use Rattle.whole.specs.Pigeon.{Apart, none, one}
-use Rattle.whole.specs.Tests.{clash}
-use Rattle.whole.specs.Members.{in-head, in-tail, in-cons, out-cons, differ, apart-below}
+use Rattle.whole.specs.Members.{in-head, in-single, in-tail, out-cons, differ, apart-below}
 use Rattle.rules.specs.Graph.{Graph, edge, neighbours, degree}
 use Rattle.rules.specs.Eliminate.{Step, step, chooses, stepOf, eliminate}
 use Rattle.rules.specs.DegreeThree.{cubic, eliminate3}
@@ -30,7 +29,8 @@ use Rattle.meaning.specs.Neat.{neat-tidy, boundary-live}
 use Rattle.meaning.specs.BlockSteps.{choice-is, played, block-grown-back}
 use Rattle.meaning.specs.Growth.{neighbours-apart}
 use Rattle.meaning.specs.Stands.{Fine, Alive, Stands, marked, alive-other, neighbours-alive, eliminate-stands, three-stands, contract-stands, block-stands}
-use Rattle.objective_cost.specs.FixLaws.{cost-ext, reduced-plan, setAt}
+use Rattle.objective_cost.specs.FixLaws.{reduced-plan, setAt}
+use Rattle.meaning.specs.BlockCost.{cost-ext}
 use Rattle.sound_run.specs.Sound.{Taken, Steps, decisions, Sound}
 use Rattle.sound_run.specs.Ascending.{ascending-upto, bits-below}
 
@@ -86,7 +86,7 @@ module _ (g : Graph) (f : Fine g) (i : ℕ) (a : Alive (g .n) (g .states) i) whe
     unfolding contractStep mem ascending all
     contract-taken = record {
       decision = a;
-      near = λ k h. in-cons k j [] h (λ e. rw e (neighbours-alive g f 3 i (a .0) j m)) (λ r. clash r refl);
+      near = λ k h. rw (in-single k j h) (neighbours-alive g f 3 i (a .0) j m);
       ascends = refl;
       few = omega arith;
       choices = small (positive g i j);

@@ -13,6 +13,7 @@ use lib.IntN.{ℤ, pos}
 use borrow.Author.Tests.{eqb-false, ltb-true, ltb-false}
 use Rattle.whole.specs.Words.{isZeroZ}
 use Rattle.whole.specs.Tests.{clash}
+use Rattle.whole.specs.Lists.{replicate-at}
 use Rattle.rules.specs.Objective.{Objective}
 use Rattle.rules.specs.Graph.{Graph, lin, active, addLinear, addEdge, addTerm, addTerms, noEdges, bare, graphOf}
 use Rattle.rules.specs.Fixing.{fix, fixAll, start}
@@ -31,12 +32,7 @@ statesFrom n f = f ++ replicate (64 - n) 0
 pub past : {A : Type 0} (xs : List A) (a : A) (c k : ℕ) → length xs ≤ k → getD (xs ++ replicate c a) k a ≡ a
 past xs a c k h =
     let e : length xs + (k - length xs) ≡ k = omega arith in
-    ap (λ (m : ℕ). getD (xs ++ replicate c a) m a) (sym e) ∙ getD-append-add xs (replicate c a) (k - length xs) a ∙ filled c (k - length xs)
-  where
-    filled : (c k : ℕ) → getD (replicate c a) k a ≡ a
-    filled zero k = refl
-    filled (suc c) zero = refl
-    filled (suc c) (suc k) = filled c k
+    ap (λ (m : ℕ). getD (xs ++ replicate c a) m a) (sym e) ∙ getD-append-add xs (replicate c a) (k - length xs) a ∙ replicate-at a c (k - length xs)
 
 -- ---- building
 module _ (o : Objective) (fit : Fit o) where

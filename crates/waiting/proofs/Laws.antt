@@ -12,8 +12,8 @@ use borrow.Author.Tests.{eq-eqb, ne-eqb}
 use Rattle.whole.specs.Masks.{these, these-step, these-end}
 use Rattle.whole.specs.Those.{from-more, from-end}
 use Rattle.whole.specs.Words.{from, upto, mem, those}
-use Rattle.whole.specs.Tests.{refuse, clash}
-use Rattle.whole.specs.Members.{in-append, in-cons}
+use Rattle.whole.specs.Tests.{refuse}
+use Rattle.whole.specs.Members.{nobody, in-append, in-single}
 use lib.Dec.{leb}
 use Rattle.rules.specs.Objective.{lowDegree, degreeThree, dominantEdge}
 use Rattle.rules.specs.Graph.{Graph, active, actives, degree}
@@ -76,7 +76,7 @@ module _ (sw : ℕ) (g : Graph) where
       new = refuse (mem k q) (λ m. let l : k < k = h k m in omega arith)
 
       on : (j : ℕ) → mem j (q ++ k ∷ []) ≡ true → j < suc k
-      on j m = in-append j q (k ∷ []) m (λ a. let l : j < k = h j a in omega arith) (λ b. in-cons j k [] b (λ e. omega arith) (λ z. clash z refl))
+      on j m = in-append j q (k ∷ []) m (λ a. let l : j < k = h j a in omega arith) (λ b. omega (arith, in-single j k b))
 
       rest : List ℕ
       rest = those (λ i. active g i) (from (suc k) c)
@@ -90,4 +90,4 @@ module _ (sw : ℕ) (g : Graph) where
 
   pub waiting-join : join sw g (upto (g .n)) [] ≡ waiting sw g
   unfolding waiting actives mem
-  waiting-join = join-from (g .n) 0 [] (λ j m. clash m refl)
+  waiting-join = join-from (g .n) 0 [] (λ j m. nobody j m)

@@ -1,6 +1,7 @@
 pub mod Words
 pub mod Parts
 pub mod Ints
+pub mod Fits
 pub mod Cmp
 pub mod Sum
 pub mod Bit

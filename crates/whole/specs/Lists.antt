@@ -6,9 +6,9 @@ use mathlib.Core.List.{List, [], _∷_, _++_, map, append-nil}
 use native.Mathlib.Numerals.{add-one}
 use native.Mathlib.Nat.{add-zero}
 use native.Mathlib.Omega.{arith}
-use lib.ListN.{length, getD, set, drop, replicate, length-append, List·getD-append}
+use lib.ListN.{length, getD, set, drop, replicate, length-append, length-map, List·getD-append}
 use native.Mathlib.Decide.{ℕ-discrete}
-use lib.Seq.{drop-cons, drop-length, set-at, append-snoc, getD-at}
+use lib.Seq.{drop-cons, drop-length, set-at, append-snoc, getD-at, getD-set-same, getD-set-other}
 use Rattle.whole.specs.Words.{tab, from}
 
 module _ {A : Type 0} (f : ℕ → A) where
@@ -82,3 +82,18 @@ tab-at f (suc k) j d h = by (ℕ-discrete j k) (λ l. tab-at f k j d l)
     by (no e) r =
         let l : j < length (tab f k) = rw length-tab (omega arith) in
         List·getD-append (tab f k) (f k ∷ []) d j l ∙ r (omega arith)
+
+-- an entry below b takes the place of another
+pub below-set : (b : ℕ) (l : List ℕ) (m v : ℕ) → m < length l → v < b → ((k : ℕ) → getD l k 0 < b) → (k : ℕ) → getD (set l m v) k 0 < b
+below-set b l m v h hv f k = by (ℕ-discrete k m)
+  where
+    by : Dec (k ≡ m) → getD (set l m v) k 0 < b
+    by (yes e) = rw (e, getD-set-same l m v 0 h) hv
+    by (no e) = rw (getD-set-other l m k v 0 e) (f k)
+
+-- a list has as many elements under a map
+pub length-mapped : (X Y : Type 0) (f : X → Y) (l : List X) (n : ℕ) → length (map f l) ≡ n → length l ≡ n
+length-mapped X Y f l n e = sym (length-map l f) ∙ e
+
+pub cons-same : {A : Type 0} {x y : A} {xs ys : List A} → x ≡ y → xs ≡ ys → x ∷ xs ≡ y ∷ ys
+cons-same p q = rw (p, q)

@@ -16,8 +16,8 @@ use lib.Count.{trailingZeros, under}
 use lib.Pow.{pow-lt}
 use borrow.Author.Tests.{eqb-true, eqb-false, ne-eqb}
 use Rattle.whole.specs.Words.{odd, bit, from, upto, mem, those, some}
-use Rattle.whole.specs.Tests.{cases, clash, refuse}
-use Rattle.whole.specs.Members.{to-those, some-none, some-true, in-head, in-tail, mem-those, in-those, from-in, in-upto, upto-in, apart-those, apart-upto}
+use Rattle.whole.specs.Tests.{cases, refuse}
+use Rattle.whole.specs.Members.{nobody, to-those, some-none, some-true, in-head, in-tail, mem-those, in-those, from-in, in-upto, upto-in, apart-those, apart-upto}
 use Rattle.whole.specs.Pigeon.{Apart}
 
 -- the decisions of a mask, ascending
@@ -283,11 +283,7 @@ turn m d h = record {
 
 -- ---- a mask of those that pass says whether some does
 some-of : (p : ℕ → Bool) (xs : List ℕ) → those p xs ≡ [] → some p xs ≡ false
-unfolding mem
-some-of p xs e = some-none p xs (λ k m. refuse (p k) (λ q. clash (to-those p k xs m q) (ap (mem k) e ∙ nobody k)))
-  where
-    nobody : (k : ℕ) → mem k [] ≡ false
-    nobody k = refl
+some-of p xs e = some-none p xs (λ k m. refuse (p k) (λ q. nobody k (ap (mem k) (sym e) ∙ to-those p k xs m q)))
 
 pub some-mask : (m : ℕ) (p : ℕ → Bool) (xs : List ℕ) → m < 2 ^ 64 → these m ≡ those p xs → some p xs ≡ not (eqb m 0)
 some-mask m p xs h e = cases (eqb m 0)

@@ -25,6 +25,11 @@ mem-append k (x ∷ xs) ys = go (eqb k x) (mem-append k xs ys)
     go true r = refl
     go false r = r
 
+-- nobody is in an empty list
+pub nobody : (k : ℕ) {P : Type 0} → mem k [] ≡ true → P
+unfolding mem
+nobody k h = clash h refl
+
 pub in-append : (k : ℕ) (xs ys : List ℕ) {P : Type 0} → mem k (xs ++ ys) ≡ true → (mem k xs ≡ true → P) → (mem k ys ≡ true → P) → P
 in-append k xs ys h = or-true (mem k xs) (mem k ys) (sym (mem-append k xs ys) ∙ h)
 
@@ -43,6 +48,10 @@ out-both k xs ys p q = mem-append k xs ys ∙ or-none p q
 pub in-cons : (k x : ℕ) (xs : List ℕ) {P : Type 0} → mem k (x ∷ xs) ≡ true → (k ≡ x → P) → (mem k xs ≡ true → P) → P
 unfolding mem
 in-cons k x xs h p q = or-true (eqb k x) (mem k xs) h (λ e. p (eqb-true k x e)) q
+
+-- one decision alone
+pub in-single : (k x : ℕ) → mem k (x ∷ []) ≡ true → k ≡ x
+in-single k x h = in-cons k x [] h (λ e. e) (λ m. nobody k m)
 
 pub in-head : (k : ℕ) (xs : List ℕ) → mem k (k ∷ xs) ≡ true
 unfolding mem

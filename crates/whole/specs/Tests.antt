@@ -1,7 +1,9 @@
 -- Tests as values of Bool, taken by cases and joined.
 -- Assumes nothing.
 use mathlib.Core.Path.{_≡_, refl, sym, ap, _∙_, subst}
-use mathlib.Core.Bool.{Bool, true, false, not, _&&_, _||_}
+use mathlib.Core.Bool.{Bool, true, false, cond, not, _&&_, _||_}
+use mathlib.Core.Logic.{_≢_}
+use Prim.Native.Nat.{ℕ}
 use lib.Dec.{T}
 
 -- a test, taken by cases
@@ -9,8 +11,18 @@ pub cases : (b : Bool) {P : Type 0} → (b ≡ true → P) → (b ≡ false → 
 cases true t f = t refl
 cases false t f = f refl
 
+-- the same either way
+pub either-way : {A : Type 0} (b : Bool) (v : A) → cond b v v ≡ v
+either-way true v = refl
+either-way false v = refl
+
 pub clash : {b : Bool} {P : Type 0} → b ≡ true → b ≡ false → P
 clash p q = absurd (subst T (sym p ∙ q) tt)
+
+-- a row of a table: its number where its test holds
+pub row-off : (k : ℕ) (t : Bool) (r : ℕ) → k ≢ 0 → cond t k r ≡ 0 → (t ≡ false) × (r ≡ 0)
+row-off k true r n e = absurd (n e)
+row-off k false r n e = (refl, e)
 
 pub or-true : (a b : Bool) {P : Type 0} → (a || b) ≡ true → (a ≡ true → P) → (b ≡ true → P) → P
 or-true true b h p q = p refl

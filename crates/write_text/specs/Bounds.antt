@@ -15,12 +15,8 @@ use Rattle.whole.specs.Words.{isZeroZ, oneIf}
 use Rattle.rules.specs.Eliminate.{Step}
 use Rattle.rules.specs.Outcome.{Outcome}
 use Rattle.rules.specs.WriteText.{decimal, shownZ, listed, listedZ, edgeIf, edgeLines, choicesOf, stepLine, stepLines, yesNo, written, writtenRefusal}
+use Rattle.roundtrip.specs.Steps.{Few}
 use Rattle.write_text.specs.WriteLaws.{edge-length, step-length, opening-length, closing-length, written-parts, refusal-length}
-
--- every element has the property
-abbrev pub All : {A : Type 0} → (A → Type 0) → List A → Type 0
-All P [] = Unit
-All P (x ∷ xs) = P x × All P xs
 
 -- a number below 10, 100, .. has 1, 2, .. digits at most
 one-more : (t : Bool) (xs : List ℕ) (x d : ℕ) → length xs ≤ d → length (cond t [] xs ++ (x ∷ [])) ≤ suc d
@@ -75,16 +71,13 @@ edges-most k (w ∷ ws) l =
     rw length-append (omega (arith, edge-most (ltb (k / 64) (k % 64)) (not (isZeroZ w)) (k / 64) (k % 64) w (omega arith) (omega arith), edges-most (suc k) ws (omega arith)))
 
 -- a step
-abbrev pub Near3 : Step → Type 0
-Near3 s = length (s .near) ≤ 3
-
 choices-most : (c m : ℕ) → length (listed (choicesOf c m)) ≤ 2 * c
 unfolding listed choicesOf
 choices-most zero m = omega arith
 choices-most (suc c) m =
     rw length-append (omega (arith, decimal-length 0 20 (m % 2) (omega arith), choices-most c (m / 2)))
 
-step-most : (s : Step) → Near3 s → length (stepLine s) ≤ 109
+step-most : (s : Step) → length (s .near) ≤ 3 → length (stepLine s) ≤ 109
 step-most s h = omega (
   arith,
   step-length s,
@@ -94,7 +87,7 @@ step-most s h = omega (
   pow-mono h,
 )
 
-steps-most : (ss : List Step) → All Near3 ss → length (stepLines ss) ≤ 109 * length ss
+steps-most : (ss : List Step) → Few ss → length (stepLines ss) ≤ 109 * length ss
 unfolding stepLines
 steps-most [] h = omega arith
 steps-most (s ∷ ss) h = rw length-append (omega (arith, step-most s (h .0), steps-most ss (h .1)))
@@ -108,7 +101,7 @@ pub record Moderate (o : Outcome) : Type 0 where
   pub remaining : length (o .remaining) ≤ 64
   pub cells : length (o .edges) ≡ 4096
   pub count : length (o .steps) ≤ 64
-  pub short : All Near3 (o .steps)
+  pub short : Few (o .steps)
 
 pub written-most : (o : Outcome) → Moderate o → length (written o) ≤ 76344
 written-most o m = rw (written-parts o) (simp length-append (omega (

@@ -6,7 +6,7 @@ use Prim.Native.Nat.{ℕ, zero, suc, _+_, _-_, _≤_}
 use native.Mathlib.Omega.{arith}
 use lib.Dec.{eqb}
 use lib.ListN.{length, take, getD, replicate, length-append, length-map, length-take, length-replicate}
-use lib.Seq.{length-take-le, getD-take, take-at}
+use lib.Seq.{length-take-le, getD-take}
 use lib.IntN.{ℤ}
 use Rattle.whole.specs.Words.{upto, those}
 use Rattle.whole.specs.Members.{upto-in}
@@ -23,7 +23,8 @@ use Rattle.rules.specs.WriteText.{edgeLines, stepLines, written}
 use Rattle.rules.specs.declared.Step.{Step}
 use Rattle.rules.specs.declared.Reduction.{Reduction}
 use Rattle.whole.specs.Those.{those-most}
-use Rattle.write_text.specs.Bounds.{All, Near3, Moderate, written-most}
+use Rattle.roundtrip.specs.Steps.{Few, all-held}
+use Rattle.write_text.specs.Bounds.{Moderate, written-most}
 use Rattle.write_text.specs.Held.{held, Short, Fair, opening, closing}
 use Rattle.write_text.specs.Puts.{room}
 use Rattle.write_text.specs.WriteLaws.{written-parts}
@@ -43,7 +44,7 @@ remaining-most states n =
 near-most : (d a b c : ℕ) → length (take d (a ∷ b ∷ c ∷ [])) ≤ 3
 near-most d a b c = omega (arith, length-take d (a ∷ b ∷ c ∷ []))
 
-all-near : (ss : List Step) → All Near3 (map played ss)
+all-near : (ss : List Step) → Few (map played ss)
 all-near [] = tt
 all-near (s ∷ ss) = (near-most (s .degree) (s .first) (s .second) (s .third), all-near ss)
 
@@ -55,21 +56,6 @@ held-moderate r l e f = record {
   count = omega (arith, length-map (take (r .«record» .count) (r .«record» .steps)) played, length-take (r .«record» .count) (r .«record» .steps), f .count);
   short = all-near (take (r .«record» .count) (r .«record» .steps));
 }
-
--- a step as it is held, and back
-played-hold : (s : rule.Step) → Near3 s → played (hold s) ≡ s
-played-hold s h = by (s .decision) (s .near) (s .choices) h
-  where
-    by : (i : ℕ) (near : List ℕ) (c : ℕ) → length near ≤ 3 → played (hold (rule.step i near c)) ≡ rule.step i near c
-    by i [] c h = refl
-    by i (x ∷ []) c h = refl
-    by i (x ∷ y ∷ []) c h = refl
-    by i (x ∷ y ∷ z ∷ []) c h = refl
-    by i (x ∷ y ∷ z ∷ w ∷ ws) c h = absurd (omega arith)
-
-played-all : (ss : List rule.Step) → All Near3 ss → map played (map hold ss) ≡ ss
-played-all [] h = refl
-played-all (s ∷ ss) h = rw (played-hold s (h .0), played-all ss (h .1))
 
 -- the decisions that remain of what is held
 abbrev pub left : Reduction → List ℕ
@@ -87,17 +73,13 @@ pub held-parts : (r : Reduction) (l e : List ℤ) → written (held r l e) ≡ o
 unfolding held
 held-parts r l e = written-parts (held r l e)
 
-steps-back : (ss : List rule.Step) → All Near3 ss → map played (take (length ss) (holdAll ss)) ≡ ss
-unfolding holdAll
-steps-back ss h = rw (take-at (map hold ss) (replicate (64 - length ss) noStep) (length ss) (length-map ss hold)) (played-all ss h)
-
 -- the shape of an outcome of a run of n decisions
 pub record Reported (n : ℕ) (o : Outcome) : Type 0 where
   pub decisions : n ≤ 64
   pub states : length (o .states) ≡ 64
   pub remaining : o .remaining ≡ those (λ i. eqb (getD (o .states) i 0) 2) (upto n)
   pub count : length (o .steps) ≤ 64
-  pub short : All Near3 (o .steps)
+  pub short : Few (o .steps)
   pub weights : length (o .linear) ≡ 64
   pub cells : length (o .edges) ≡ 4096
 
@@ -105,9 +87,9 @@ pub record Reported (n : ℕ) (o : Outcome) : Type 0 where
 pub held-back : (n : ℕ) (o : Outcome) → Reported n o → held (reported n o) (o .linear) (o .edges) ≡ o
 unfolding held statesOf stepsOf
 held-back n o h =
-    rw (remaining-upto (o .states) n (omega (arith, h .decisions, h .states)), ← (h .remaining), steps-back (o .steps) (h .short))
+    rw (remaining-upto (o .states) n (omega (arith, h .decisions, h .states)), ← (h .remaining), all-held (o .steps) (h .short))
 
-hold-short : (ss : List rule.Step) (m k : ℕ) → All Near3 ss → getD (map hold ss ++ replicate m noStep) k noStep .degree ≤ 3
+hold-short : (ss : List rule.Step) (m k : ℕ) → Few ss → getD (map hold ss ++ replicate m noStep) k noStep .degree ≤ 3
 hold-short [] zero k h = omega arith
 hold-short [] (suc m) zero h = omega arith
 hold-short [] (suc m) (suc k) h = hold-short [] m k h
@@ -135,7 +117,7 @@ unfolding edgeOut
 edge-length g = rw (tab-map (cell g (actives g)) 4096) (length-tab (cell g (actives g)) 4096)
 
 -- what a run's end must show for its outcome to be so
-pub outcome-reported : (e : Ended) → e .state .graph .n ≤ 64 → length (e .state .graph .states) ≡ 64 → length (e .state .steps) ≤ 64 → All Near3 (e .state .steps) → Reported (e .state .graph .n) (outcomeOf e)
+pub outcome-reported : (e : Ended) → e .state .graph .n ≤ 64 → length (e .state .graph .states) ≡ 64 → length (e .state .steps) ≤ 64 → Few (e .state .steps) → Reported (e .state .graph .n) (outcomeOf e)
 unfolding outcomeOf actives
 outcome-reported e few states count short = record {
   decisions = few;

@@ -1,5 +1,6 @@
 use Rattle.degree_three.proofs.Absorbing.{absorb-made}
-use Rattle.low_degree.proofs.Laws.{read, sum-fits, gain-fits}
+use Rattle.whole.specs.Fits.{read, sum-fits}
+use Rattle.low_degree.proofs.Laws.{gain-fits}
 use Rattle.accepted.specs.Small.{Small, small-gain}
 use lib.IntN.{ℤ, pos}
 use lib.ListN.{getD}

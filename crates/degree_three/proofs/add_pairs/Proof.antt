@@ -5,7 +5,8 @@ use Rattle.rules.specs.DegreeThree.{pairs, addPairs}
 use Rattle.rules.specs.Graph.{graph, addEdge}
 use Rattle.graph.specs.Shows.{Shows}
 use Rattle.accepted.specs.Small.{Small, small-more, small-gains}
-use Rattle.low_degree.proofs.Laws.{read, gain-fits}
+use Rattle.whole.specs.Fits.{read}
+use Rattle.low_degree.proofs.Laws.{gain-fits}
 use lib.IntN.{ℤ, pos}
 use lib.ListN.{getD, drop}
 use mathlib.Core.List.{List}

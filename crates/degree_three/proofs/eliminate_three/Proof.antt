@@ -1,5 +1,5 @@
 use Rattle.degree_three.proofs.Absorbing.{moebius-table, eliminated}
-use Rattle.low_degree.proofs.Laws.{read}
+use Rattle.whole.specs.Fits.{read}
 use Rattle.low_degree.specs.Table.{stepFrom}
 use Rattle.low_degree.specs.TableLaws.{degree-few, table-asks, step-table}
 use Rattle.whole.specs.Cmp.{zero-is, zero-not}

@@ -1,4 +1,5 @@
-use Rattle.degree_three.proofs.Entries.{Entries, entries, entries-are, read-sub, cons-same}
+use Rattle.degree_three.proofs.Entries.{Entries, entries, entries-are, read-sub}
+use Rattle.whole.specs.Lists.{cons-same}
 use Rattle.whole.specs.Ints.{rd}
 use mathlib.Core.Path.{refl, _∙_}
 use borrow.Author.Needs.{needs}

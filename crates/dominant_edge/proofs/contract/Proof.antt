@@ -1,7 +1,8 @@
 use Rattle.whole.specs.Parts.{∣_∣}
 use Rattle.dominant_edge.proofs.Giving.{minus, minus-fits, mask-inside, row-small, row-gone, by-turning, by-moving, step-by}
 use Rattle.dominant_edge.specs.Answer.{Gone}
-use Rattle.low_degree.proofs.Laws.{read, sum-fits, gain-fits}
+use Rattle.whole.specs.Fits.{read, sum-fits}
+use Rattle.low_degree.proofs.Laws.{gain-fits}
 use Rattle.rules.specs.Graph.{Graph, lin, edge}
 use Rattle.rules.specs.DominantEdge.{positive}
 use Rattle.graph.specs.Held.{held}

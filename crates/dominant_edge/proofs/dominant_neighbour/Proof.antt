@@ -7,7 +7,7 @@ use Rattle.dominant_edge.specs.declared.Dominant.the-variants.{Neighbour
 use Rattle.rules.specs.DominantEdge.{weak, dominates, first, dominant}
 use Rattle.rules.specs.Graph.{Graph}
 use Rattle.whole.specs.Masks.{these, rest-less}
-use Rattle.low_degree.proofs.Laws.{read}
+use Rattle.whole.specs.Fits.{read}
 use Rattle.whole.specs.Ints.{rd}
 use lib.Count.{trailingZeros}
 use lib.IntN.{ℤ, pos}

@@ -2,7 +2,7 @@ use Rattle.graph.specs.declared.Frame.{Frame}
 use Rattle.rules.specs.Fixing as rule
 use Rattle.accepted.specs.Mass.{mass}
 use Rattle.graph.proofs.Fixing.{fix-zero, fix-room, fix-sum, fix-one}
-use Rattle.graph.proofs.Laws.{sum-fits}
+use Rattle.graph.proofs.Laws.{mass-fits}
 use Rattle.graph.specs.Held.{held, withConstant}
 use Rattle.rules.specs.Graph.{lin}
 use Rattle.whole.specs.Ints.{rd}
@@ -38,7 +38,7 @@ add-constant-requires : tie.Need-add-constant-requires
 add-constant-requires c κs =
     let s = c .before .before .before .before .before .before .before .before in
     let a = s .args in
-    rw (read c) (sum-fits (c .drop-to2 .result .constant) (getD (now (a .lin)) (a .i) (pos 0))
+    rw (read c) (mass-fits (c .drop-to2 .result .constant) (getD (now (a .lin)) (a .i) (pos 0))
     (fix-sum (a .i) (held (a .f) (now (a .lin)) (now (a .edges))) (held (c .drop-to2 .result) (c .drop-to2 .last .0) (c .drop-to2 .last .1 .0)) (c .before .before .before .before .before .row-of .result) (c .drop-to2 .ensures .0) (s .pre .0) (s .pre .2) (c .before .before .before .before .before .row-of .ensures) (s .pre .3)))
 
 spread-requires : tie.Need-spread-requires

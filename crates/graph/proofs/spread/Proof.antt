@@ -1,6 +1,7 @@
 use native.Mathlib.Nat.{sub-zero}
-use Rattle.graph.proofs.Laws.{weight-rest, lin-gain, gain-fits, spread-more, spread-same, spread-end}
-use Rattle.accepted.specs.Mass.{weight-gain}
+use Rattle.graph.specs.HeldLaws.{linear-gain}
+use Rattle.graph.proofs.Laws.{gain-fits, spread-more, spread-same, spread-end}
+use Rattle.accepted.specs.Mass.{weight-gain, weight-rest}
 use Rattle.rules.specs.Objective.{weightOf}
 use Rattle.rules.specs.Fixing as rule
 use Rattle.rules.specs.Graph.{Graph, graph, edge}
@@ -17,7 +18,7 @@ use native.Mathlib.Omega.{arith}
 use mathlib.Core.List.{List}
 use mathlib.Core.Logic.{⊎-elim}
 use mathlib.Core.Bool.{not}
-use mathlib.Core.Path.{_≡_, refl, sym, ap, _∙_}
+use mathlib.Core.Path.{_≡_, sym, ap, _∙_}
 use Prim.Native.Nat.{ℕ, _≤_, _<_, _-_, _+_}
 use Rattle.graph.proofs.spread.Statement.{statement}
 use Rattle.graph.proofs.spread.Tie as tie
@@ -60,7 +61,7 @@ loop-again c =
       λ old i m b e ss h.
           l .inv .2 old i m b e ss h
           ∙ spread-more old i (l .j) (a .n) (graph m b (l .lin) e ss) lt (rw (← h (l .j) lt) (zero-not r (w .0 .taken)))
-          ∙ ap (rule.spread old i (those (λ j. not (isZeroZ (edge old i j))) (from (l .j + 1) (a .n - (l .j + 1))))) (lin-gain m (l .j) b (l .lin) (w .2 .last .0) e ss r r (edge old i (l .j)) k refl (h (l .j) lt)),
+          ∙ ap (rule.spread old i (those (λ j. not (isZeroZ (edge old i j))) (from (l .j + 1) (a .n - (l .j + 1))))) (linear-gain m b (l .lin) e ss (edge old i (l .j)) (w .2 .last .0) (l .j) (k ∙ ap (λ (z : ℤ). set (l .lin) (l .j) (getD (l .lin) (l .j) (pos 0) +ℤ z)) (h (l .j) lt))),
     ))
     (λ w. rw (w .1) (
       omega arith,

@@ -1,4 +1,5 @@
-use Rattle.low_degree.proofs.Laws.{Gains, gains, gain-fits, sum-fits, absorb-none, absorb-one, absorb-two}
+use Rattle.low_degree.proofs.Laws.{Gains, gains, gain-fits, absorb-none, absorb-one, absorb-two}
+use Rattle.whole.specs.Fits.{sum-fits}
 use Rattle.accepted.specs.Small.{Small, small-gain}
 use Rattle.whole.specs.Ints.{rd}
 use lib.IntN.{pos, _+ℤ_, _-ℤ_}

@@ -1,4 +1,5 @@
-use Rattle.low_degree.proofs.Laws.{read, eliminated}
+use Rattle.low_degree.proofs.Laws.{eliminated}
+use Rattle.whole.specs.Fits.{read}
 use Rattle.low_degree.specs.Table.{stepFrom}
 use Rattle.low_degree.specs.TableLaws.{degree-few, table-asks, step-table}
 use Rattle.graph.specs.Held.{held}

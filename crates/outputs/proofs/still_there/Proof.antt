@@ -1,16 +1,17 @@
-use Rattle.outputs.proofs.Laws.{zero-at, those-same, those-end, listed, below-set}
+use Rattle.outputs.proofs.Laws.{zero-at, those-same, those-end, listed}
+use Rattle.whole.specs.Lists.{below-set}
 use Rattle.outputs.specs.Out.{rest}
 use Rattle.whole.specs.Words.{those, from}
 use borrow.Author.Tests.{eq-eqb, ne-eqb}
-use lib.ListN.{length, take, set, getD, length-set}
+use lib.ListN.{length, getD, length-set}
 use lib.Dec.{eqb}
 use native.Mathlib.Nat.{sub-zero}
 use native.Mathlib.Omega.{arith}
-use mathlib.Core.List.{List, [], _++_, append-nil}
+use mathlib.Core.List.{List, _++_, append-nil}
 use mathlib.Core.Logic.{⊎-elim}
 use mathlib.Core.Bool.{Bool}
 use mathlib.Core.Path.{_≡_, refl, ap, sym, _∙_}
-use Prim.Native.Nat.{ℕ, _≤_, _<_, _-_, _+_}
+use Prim.Native.Nat.{ℕ, _≤_, _<_, _-_}
 use borrow.Author.Needs.{needs}
 use Rattle.outputs.proofs.still_there.Statement.{statement}
 use Rattle.outputs.proofs.still_there.Tie as tie

@@ -9,7 +9,8 @@ use denote.Ref.{now}
 use borrow.Author.Needs.{needs, sfits-of}
 use Rattle.whole.specs.Ints.{rd}
 use Rattle.rules.specs.Objective.{weightOf}
-use Rattle.refusal.proofs.Laws.{weight-turn, weight-end}
+use Rattle.accepted.specs.Mass.{weight-rest}
+use Rattle.refusal.proofs.Laws.{weight-end}
 use Rattle.refusal.proofs.weigh.Statement.{statement}
 use Rattle.refusal.proofs.weigh.Tie as tie
 
@@ -32,13 +33,13 @@ returns : tie.Need-returns Inv-loop μ-loop
 returns c =
     let l = c .before .before .before .before .loop in
     let w = c .before .before .before .before .before .args .w .now in
-    omega (arith, seen (c .before), weight-turn w (l .i) (omega arith))
+    omega (arith, seen (c .before), weight-rest w (l .i))
 
 loop-again : tie.Need-loop-again Inv-loop μ-loop
 loop-again c =
     let l = c .before .before .before .before .loop in
     let w = c .before .before .before .before .before .args .w .now in
-    (omega arith, omega arith, omega (arith, seen (c .before), weight-turn w (l .i) (omega arith)))
+    (omega arith, omega arith, omega (arith, seen (c .before), weight-rest w (l .i)))
 
 returns-2 : tie.Need-returns-2 Inv-loop μ-loop
 returns-2 c =

@@ -1,9 +1,9 @@
 use borrow.Author.Needs.{needs}
 use Prim.Native.Nat.{ℕ, _<_, _≤_, _+_, _-_}
-use mathlib.Core.Path.{_≡_, ap, sym, _∙_, subst}
-use mathlib.Core.List.{List, map}
+use mathlib.Core.Path.{_≡_, ap, _∙_, subst}
 use native.Mathlib.Omega.{arith}
 use lib.ListN.{length, take, drop, getD, length-map, List·getD-map}
+use Rattle.whole.specs.Lists.{length-mapped}
 use lib.Seq.{length-take-le, getD-take}
 use Rattle.rules.specs.Eliminate as rule
 use Rattle.rules.specs.Record.{played, stepsOf, noStep}
@@ -19,10 +19,6 @@ Inv-loop out₀ at «record» count p₀ j₀ out p j = (j ≤ «record» .count
 
 abbrev μ-loop : tie.MeasureT-loop
 μ-loop out₀ at «record» count p₀ j₀ out p j = «record» .count - j
-
--- an array of structs has its length under a map
-length-mapped : (X Y : Type 0) (f : X → Y) (l : List X) (n : ℕ) → length (map f l) ≡ n → length l ≡ n
-length-mapped X Y f l n e = sym (length-map l f) ∙ e
 
 list-length : (c : tie.Start Inv-loop μ-loop) → length (c .args .t3 .steps) ≡ 64
 list-length c = search (needs, length-mapped)

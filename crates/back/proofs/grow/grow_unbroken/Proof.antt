@@ -7,7 +7,7 @@ use lib.ListN.{length, take}
 use Rattle.rules.specs.Record.{statesOf}
 use Rattle.rules.specs.Refuse.{firstRow, bytesRows, answerRows}
 use Rattle.rules.specs.Call.{grown}
-use Rattle.record.proofs.Stores.{length-mapped}
+use Rattle.whole.specs.Lists.{length-mapped}
 use Rattle.back.specs.SoundRecord.{few-decisions, few-steps, grown-front}
 use Rattle.back.specs.RefusalLaws.{bytes-pass, refused, accepted}
 use Rattle.back.proofs.grow.grow_unbroken.Statement.{statement}

@@ -1,13 +1,12 @@
 use mathlib.Core.Path.{_≡_, ap, _∙_}
 use borrow.Author.Needs.{needs}
-use lib.ListN.{length}
 use denote.Ref.{now}
 use mir.Syntax.{w64}
 use mir.Val.{SFits}
 use Rattle.whole.specs.Ints.{rd}
 use Rattle.rules.specs.Record.{twos}
 use Rattle.roundtrip.specs.Fields.{Held}
-use Rattle.record.proofs.Stores.{length-mapped}
+use Rattle.whole.specs.Lists.{length-mapped}
 use Rattle.record.proofs.Fields.{put-all}
 use Rattle.record.proofs.write.put_body.Statement.{statement}
 use Rattle.record.proofs.write.put_body.Tie as tie

@@ -6,7 +6,7 @@ use denote.Ref.{now}
 use lib.ListN.{take}
 use Rattle.rules.specs.Record.{sealed, blockOf}
 use Rattle.roundtrip.specs.Fields.{Held}
-use Rattle.record.proofs.Stores.{length-mapped}
+use Rattle.whole.specs.Lists.{length-mapped}
 use Rattle.record.proofs.Fields.{take-body}
 use Rattle.record.proofs.write.put_record.Statement.{statement}
 use Rattle.record.proofs.write.put_record.Tie as tie

@@ -6,7 +6,8 @@ use mathlib.Core.List.{List}
 use lib.ListN.{length, drop}
 use lib.Seq.{sets}
 use Rattle.rules.specs.Record.{stepsBytes}
-use Rattle.record.proofs.Stores.{steps-next, steps-over, length-mapped}
+use Rattle.record.proofs.Stores.{steps-next, steps-over}
+use Rattle.whole.specs.Lists.{length-mapped}
 use Rattle.record.proofs.write.put_steps.Statement.{statement}
 use Rattle.record.proofs.write.put_steps.Tie as tie
 
