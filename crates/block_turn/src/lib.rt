@@ -65,7 +65,7 @@ pub fn take_block(
     let steps = done.steps;
     let n = frame.n;
     let states = frame.states;
-    let queue = waiting::first_queue(edges, ring, &states, n, switches);
+    let queue = waiting::first_queue(masks, ring, &states, n, switches);
     let members = Tally {
         eliminated: 0,
         three: 0,

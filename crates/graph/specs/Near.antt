@@ -22,6 +22,3 @@ nearOf g i = nearAmong (g .edges) i (neighbours g i)
 -- what is near i in these edges, whatever else the graph has
 abbrev pub Nears : Near → List ℤ → ℕ → ℕ → Type 0
 Nears r e n i = (c : ℤ) (l : List ℤ) (ss : List ℕ) → r ≡ nearOf (graph n c l e ss) i
-
-abbrev pub Degrees : ℕ → List ℤ → ℕ → ℕ → Type 0
-Degrees r e n i = (c : ℤ) (l : List ℤ) (ss : List ℕ) → r ≡ length (neighbours (graph n c l e ss) i)

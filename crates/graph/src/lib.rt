@@ -9,13 +9,14 @@ ghost use lib.IntN.{ℤ, pos, natAbs, _+ℤ_};
 ghost use mir.Syntax.{w64};
 ghost use mir.Val.{SFits};
 ghost use Rattle.whole.specs.Words.{tab, bit, isZeroZ};
+ghost use Rattle.whole.specs.Masks.{these};
 ghost use Rattle.rules.specs.Graph.{addTerm, addTerms, clear as cleared, dropTo, noEdges};
 ghost use Rattle.rules.specs.Fixing.{fix as fixing, fixAll, start as started};
 ghost use Rattle.accepted.specs.Accept.{Fit};
 ghost use Rattle.rules.specs.Objective.{objective, weightOf};
 ghost use Rattle.accepted.specs.Mass.{mass};
 ghost use Rattle.graph.specs.Held.{held, withConstant, noLinear, Below, Does, Spreads};
-ghost use Rattle.graph.specs.Near.{Nears, Degrees};
+ghost use Rattle.graph.specs.Near.{Nears};
 ghost use Rattle.graph.specs.Shows.{Shows, noMasks};
 
 // What a graph has besides its weights.
@@ -130,19 +131,16 @@ pub fn neighbours(edges: &[i64; 4096], masks: &[u64; 64], i: usize) -> Near
     r
 }
 
-// How many neighbours i has.
-pub fn degree(edges: &[i64; 4096], n: usize, i: usize) -> usize
-    requires { ⌜ (i < 64) × (n ≤ 64) ⌝ }
-    ensures { λ r. ⌜ Degrees r (now (edges .entry)) n i ⌝ }
+// How many neighbours i has: the bits of its mask.
+pub fn degree(masks: &[u64; 64], i: usize) -> usize
+    requires { ⌜ i < 64 ⌝ }
+    ensures { λ r. ⌜ r ≡ length (these (getD (now (masks .entry)) i 0)) ⌝ }
 {
     let mut d: usize = 0;
-    let mut j: usize = 0;
-    while j < n {
-        let w = edges[64 * i + j];
-        if w != 0 {
-            d = d + 1;
-        }
-        j = j + 1;
+    let mut rest = mask_at(masks, i);
+    while rest != 0 {
+        d = d + 1;
+        rest = rest & (rest - 1);
     }
     d
 }

@@ -24,7 +24,8 @@ use Rattle.rules.specs.SmallBlock.{boundary, inner, cheapest, bestMask, blockTa
 use Rattle.whole.specs.Sum.{Σ-cong}
 use Rattle.meaning.specs.Cost.{shift-≤, regroup, swap-last, when, when-zero, row-zero, rowCost, costOf, deltaOf}
 use Rattle.meaning.specs.CostLaws.{cost, Shaped, drop-cost, clear-zero, clear-other}
-use Rattle.meaning.specs.EliminateLaws.{maskAt, odd-of, half-of, chosen-mask, zero-of, shaped-drop, Pair, empty, single, double, absorb-cost}
+use Rattle.whole.specs.Cmp.{zero-of}
+use Rattle.meaning.specs.EliminateLaws.{maskAt, odd-of, half-of, chosen-mask, shaped-drop, Pair, empty, single, double, absorb-cost}
 use Rattle.whole.specs.Pigeon.{Apart, none, one}
 use Rattle.whole.specs.Tests.{cases, clash, and-both, not-off, on-not, off-not, refuse}
 use Rattle.whole.specs.Members.{nobody, in-cons, in-head, in-tail, out-append, out-cons, out-of-cons, differ, in-those, to-those, in-upto, some-true, apart-head, apart-new, apart-tail, apart-left, apart-right, apart-below, apart-join, apart-those, apart-upto}

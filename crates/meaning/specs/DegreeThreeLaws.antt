@@ -16,7 +16,8 @@ use Rattle.rules.specs.Eliminate.{tee}
 use Rattle.meaning.specs.Cost.{when}
 use Rattle.meaning.specs.CostLaws.{cost, Shaped, base-cost, lin-cost, edge-cost}
 use Rattle.meaning.specs.AbsorbLaws.{shaped-base, shaped-lin, shaped-edge, three-sum}
-use Rattle.meaning.specs.EliminateLaws.{maskAt, shaped-drop, zero-of}
+use Rattle.whole.specs.Cmp.{zero-of}
+use Rattle.meaning.specs.EliminateLaws.{maskAt, shaped-drop}
 use lib.ListN.{length}
 use Rattle.whole.specs.Pigeon.{Apart, none, one}
 use Rattle.whole.specs.Tests.{on-not}

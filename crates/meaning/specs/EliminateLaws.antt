@@ -1,15 +1,16 @@
 -- Eliminate, at degree at most 2: what it does to the cost of every plan. Assumes nothing.
-use mathlib.Core.Path.{_≡_, refl, sym, ap, ap₂, _∙_, subst}
+use mathlib.Core.Path.{_≡_, refl, sym, ap, ap₂, _∙_}
 use mathlib.Core.Bool.{Bool, true, false, cond, not}
 use mathlib.Core.List.{List, [], _∷_, map}
 use mathlib.Core.Logic.{_≢_}
 use Prim.Native.Nat.{ℕ, zero, suc, _+_, _*_, _/_, _%_, _<_}
 use native.Mathlib.Omega.{arith}
 use native.Mathlib.Decide.{ℕ-discrete}
-use lib.Dec.{T, eqb}
+use lib.Dec.{eqb}
 use lib.ListN.{length-set}
-use lib.IntN.{ℤ, pos, negsuc, _+ℤ_, +ℤ-assoc, +ℤ-idl, +ℤ-idr}
+use lib.IntN.{ℤ, pos, _+ℤ_, +ℤ-assoc, +ℤ-idl, +ℤ-idr}
 use Rattle.whole.specs.Words.{oneIf, odd, from, upto, those, chosen, isZeroZ}
+use Rattle.whole.specs.Cmp.{zero-of}
 use Rattle.rules.specs.Graph.{Graph, lin, edge, neighbours, dropTo}
 use Rattle.rules.specs.Eliminate.{absorb, delta}
 use Rattle.whole.specs.Sum.{Σ<}
@@ -67,10 +68,6 @@ over-upto F (suc n) = over-from F 0 n ∙ ap₂ (λ (a b : ℤ). a +ℤ b) (over
   where
     zero-plus : 0 + n ≡ n
     zero-plus = omega arith
-
-pub zero-of : (z : ℤ) → isZeroZ z ≡ true → z ≡ pos 0
-zero-of (pos n) h = ap pos (lib.Dec.eqb→eq n 0 (subst T (sym h) tt))
-zero-of (negsuc n) h = absurd (subst T (sym h) tt)
 
 -- what is left out of a sum is 0
 pub over-those : (F w : ℕ → ℤ) → ((k : ℕ) → w k ≡ pos 0 → F k ≡ pos 0) → (js : List ℕ) → over F (those (λ j. not (isZeroZ (w j))) js) ≡ over F js

@@ -23,7 +23,8 @@ use Rattle.rules.specs.DominantEdge.{positive, turn, move, contract}
 use Rattle.rules.specs.SmallBlock.{dropAll, boundary, blockTable, eliminateBlock, findBlock, members}
 use Rattle.meaning.specs.CostLaws.{Shaped, in64}
 use Rattle.meaning.specs.AbsorbLaws.{shaped-base, shaped-lin, shaped-edge}
-use Rattle.meaning.specs.EliminateLaws.{zero-of, shaped-drop, Pair, empty, single, double}
+use Rattle.whole.specs.Cmp.{zero-of}
+use Rattle.meaning.specs.EliminateLaws.{shaped-drop, Pair, empty, single, double}
 use Rattle.meaning.specs.DegreeThreeLaws.{Triple, triple}
 use Rattle.meaning.specs.Growth.{in-nbrs}
 use Rattle.meaning.specs.BlockCost.{Gone, boundary-apart, boundary-outside, pair-of}

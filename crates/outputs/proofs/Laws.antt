@@ -4,10 +4,11 @@ use mathlib.Core.Path.{_≡_, refl, ap, sym, _∙_}
 use mathlib.Core.Bool.{Bool, true, false, cond, _&&_}
 use mathlib.Core.List.{List, [], _∷_, _++_, map}
 use native.Mathlib.Omega.{arith}
+use native.Mathlib.Decide.{ℕ-discrete, decLt}
 use native.Mathlib.Numerals.{add-one}
 use lib.Dec.{ltb}
-use lib.ListN.{getD, set, take, length, replicate, length-append, length-replicate, length-map, List·getD-append}
-use lib.Seq.{take-suc-set, append-snoc, getD-take, length-take-le, ext-getD}
+use lib.ListN.{getD, set, take, length, replicate, length-set, length-append, length-replicate, length-map, getD-replicate, List·getD-append}
+use lib.Seq.{take-suc-set, append-snoc, getD-take, getD-set-same, getD-set-other, length-take-le, ext-getD}
 use lib.IntN.{ℤ, pos}
 use borrow.Author.Tests.{ltb-true, ltb-false}
 use Rattle.whole.specs.Words.{those, from, upto, tab}
@@ -16,7 +17,7 @@ use Rattle.whole.specs.Those.{rest-more}
 pub use Rattle.whole.specs.Those.{rest-same as those-same, rest-end as those-end}
 use Rattle.rules.specs.Graph.{Graph, actives}
 use Rattle.rules.specs.Outcome.{linearOut, cell, edgeOut}
-use Rattle.outputs.specs.Out.{rest, Places, linearAt, edgeAt, linearOf, cellOf}
+use Rattle.outputs.specs.Out.{rest, Places, Turned, linearAt, edgeAt, linearOf, cellOf}
 use Rattle.outputs.specs.declared.Remaining.{Remaining}
 
 module _ (p : ℕ → Bool) (n i : ℕ) where
@@ -29,6 +30,84 @@ pub zero-at : (n k : ℕ) → getD (replicate n 0) k 0 < 64
 zero-at zero k = omega arith
 zero-at (suc n) zero = omega arith
 zero-at (suc n) (suc k) = zero-at n k
+
+-- the first n of the list are decisions before i, and turned round; a decision that is not there has the place 64
+pub record Listing (i : ℕ) (list places : List ℕ) (n : ℕ) : Type 0 where
+  pub turned : Turned list places n
+  pub before : (b : ℕ) → b < n → getD list b 0 < i
+  pub none : (j : ℕ) → j < 64 → n ≤ getD places j 0 → getD places j 0 ≡ 64
+
+pub listing-begin : Listing 0 (replicate 64 0) (replicate 64 64) 0
+listing-begin = record {
+  turned = record { long = refl; low = λ j l. omega (arith, full j l); there = λ j l h. absurd (omega arith); back = λ b h. absurd (omega arith) };
+  before = λ b h. absurd (omega arith);
+  none = λ j l h. full j l;
+}
+  where
+    full : (j : ℕ) → j < 64 → getD {A = ℕ} (replicate 64 64) j 0 ≡ 64
+    full j l = getD-replicate {A = ℕ} 64 j 64 0 l
+
+module _ (i : ℕ) (list places : List ℕ) (n : ℕ) (w : Listing i list places n) where
+  pub listing-same : Listing (i + 1) list places n
+  listing-same = record { turned = w .turned; before = λ b h. let k = w .before b h in omega arith; none = w .none }
+
+  -- i joins the list
+  module _ (l : length list ≡ 64) (k : n ≤ i) (h : i < 64) where
+    abbrev list′ : List ℕ
+    list′ = set list n i
+
+    abbrev places′ : List ℕ
+    places′ = set places i n
+
+    here : getD (set list n i) n 0 ≡ i
+    here = getD-set-same list n i 0 (omega arith)
+
+    its : getD (set places i n) i 0 ≡ n
+    its = getD-set-same places i n 0 (omega (arith, w .turned .long))
+
+    there-more : (j : ℕ) → j < 64 → Dec (j ≡ i) → getD places′ j 0 < n + 1 → getD list′ (getD places′ j 0) 0 ≡ j
+    there-more j b (yes e) s = rw (e, its) here
+    there-more j b (no e) s =
+        let o : getD places′ j 0 ≡ getD places j 0 = getD-set-other places i j n 0 e in
+        let u : getD places j 0 < n = below (decLt (getD places j 0) n) (omega arith) in
+        rw o (getD-set-other list n (getD places j 0) i 0 (λ q. omega arith) ∙ w .turned .there j b u)
+      where
+        below : Dec (getD places j 0 < n) → getD places j 0 < n + 1 → getD places j 0 < n
+        below (yes u) v = u
+        below (no u) v = absurd (omega (arith, w .none j b (omega arith)))
+
+    back-more : (b : ℕ) → b < n + 1 → Dec (b ≡ n) → getD places′ (getD list′ b 0) 0 ≡ b
+    back-more b s (yes e) = rw (e, here) its
+    back-more b s (no e) =
+        let u : b < n = omega arith in
+        let v : getD list b 0 < i = w .before b u in
+        rw (getD-set-other list n b i 0 e) (getD-set-other places i (getD list b 0) n 0 (λ q. omega arith) ∙ w .turned .back b u)
+
+    before-more : (b : ℕ) → b < n + 1 → Dec (b ≡ n) → getD list′ b 0 < i + 1
+    before-more b s (yes e) = rw (e, here) (omega arith)
+    before-more b s (no e) = let v = w .before b (omega arith) in rw (getD-set-other list n b i 0 e) (omega arith)
+
+    none-more : (j : ℕ) → j < 64 → Dec (j ≡ i) → n + 1 ≤ getD places′ j 0 → getD places′ j 0 ≡ 64
+    none-more j b (yes e) s = absurd (let o : getD places′ j 0 ≡ n = rw e its in omega arith)
+    none-more j b (no e) s =
+        let o : getD places′ j 0 ≡ getD places j 0 = getD-set-other places i j n 0 e in
+        o ∙ w .none j b (omega arith)
+
+    low-more : (j : ℕ) → j < 64 → Dec (j ≡ i) → getD places′ j 0 ≤ 64
+    low-more j b (yes e) = rw (e, its) (omega arith)
+    low-more j b (no e) = rw (getD-set-other places i j n 0 e) (w .turned .low j b)
+
+    pub listing-more : Listing (i + 1) (set list n i) (set places i n) (n + 1)
+    listing-more = record {
+      turned = record {
+        long = length-set places i n ∙ w .turned .long;
+        low = λ j b. low-more j b (ℕ-discrete j i);
+        there = λ j b s. there-more j b (ℕ-discrete j i) s;
+        back = λ b s. back-more b s (ℕ-discrete b n);
+      };
+      before = λ b s. before-more b s (ℕ-discrete b n);
+      none = λ j b s. none-more j b (ℕ-discrete j i) s;
+    }
 
 -- the outputs
 map-at : (f : ℕ → ℤ) (l : List ℕ) (n : ℕ) → n < length l → getD (map f l) n (pos 0) ≡ f (getD l n 0)

@@ -1,25 +1,31 @@
 // The outputs, over the remaining decisions alone.
 ghost use mathlib.Core.Path.{_≡_};
-ghost use Prim.Native.Nat.{_+_, _*_, _<_, _≤_};
-ghost use lib.ListN.{length};
+ghost use mathlib.Core.List.{List};
+ghost use Prim.Native.Nat.{ℕ, _+_, _*_, _<_, _≤_};
+ghost use lib.ListN.{length, getD, replicate};
+ghost use lib.IntN.{pos};
 ghost use Rattle.whole.specs.Words.{tab};
-ghost use Rattle.outputs.specs.Out.{rest, activeOf, Places, linearAt, edgeAt, Fills, Ends};
+ghost use Rattle.graph.specs.Shows.{Shows};
+ghost use Rattle.outputs.specs.Out.{rest, activeOf, Places, Turned, Seen, Row, linearAt, edgeAt};
 use graph::Frame;
 
+// The decisions that remain, and the place of each among them; 64 for one that does not.
 pub struct Remaining {
     pub list: [u8; 64],
     pub len: usize,
+    pub places: [u8; 64],
 }
 
 // The active decisions, ascending.
 pub fn still_there(f: Frame) -> Remaining
     requires { ⌜ f .n ≤ 64 ⌝ }
-    ensures { λ r. ⌜ (rest r ≡ activeOf (f .states) (f .n)) × Places (r .list) (r .len) ⌝ }
+    ensures { λ r. ⌜ (rest r ≡ activeOf (f .states) (f .n)) × Places (r .list) (r .len) × Turned (r .list) (r .places) (r .len) ⌝ }
 {
     let n = f.n;
     let mut r = Remaining {
         list: [0; 64],
         len: 0,
+        places: [64; 64],
     };
     let mut i: usize = 0;
     while i < n {
@@ -27,6 +33,7 @@ pub fn still_there(f: Frame) -> Remaining
         if s == 2 {
             let at = r.len;
             r.list[at] = i as u8;
+            r.places[i] = at as u8;
             r.len = at + 1;
         }
         i = i + 1;
@@ -60,60 +67,71 @@ pub fn write_linear(out: &mut [i64], lin: &[i64; 64], r: Remaining)
     }
 }
 
-// Places a and b of the remaining decisions.
-fn edge_entry(e: &[i64; 4096], list: &[u8; 64], n: usize, a: usize, b: usize) -> i64
-    requires { ⌜ (a < n) × (b < 64) × Places (now list) n ⌝ }
-    ensures { λ z. ⌜ z ≡ edgeAt (now (e .entry)) (now (list .entry)) n (64 * a + b) ⌝ }
+fn write_zeros(out: &mut [i64])
+    requires { ⌜ length (now out) ≡ 4096 ⌝ }
+    ensures { λ _. ⌜ now (out .exit) ≡ replicate 4096 (pos 0) ⌝ }
 {
-    if n <= b {
-        return 0;
-    }
-    let i = list[a] as usize;
-    let j = list[b] as usize;
-    e[64 * i + j]
-}
-
-fn write_row(out: &mut [i64], e: &[i64; 4096], list: &[u8; 64], n: usize, a: usize)
-    requires { ⌜ (length (now out) ≡ 4096) × (a < n) × Places (now list) n ⌝ }
-    ensures { λ _. ⌜ Fills (edgeAt (now (e .entry)) (now (list .entry)) n) (64 * a) (64 * a + 64) (now (out .entry)) (now (out .exit)) ⌝ }
-{
-    let mut b: usize = 0;
-    while b < 64 {
-        let w = edge_entry(e, list, n, a, b);
-        out[64 * a + b] = w;
-        b = b + 1;
-    }
-}
-
-fn write_rows(out: &mut [i64], e: &[i64; 4096], list: &[u8; 64], n: usize)
-    requires { ⌜ (length (now out) ≡ 4096) × Places (now list) n ⌝ }
-    ensures { λ _. ⌜ Fills (edgeAt (now (e .entry)) (now (list .entry)) n) 0 (64 * n) (now (out .entry)) (now (out .exit)) ⌝ }
-{
-    let mut a: usize = 0;
-    while a < n {
-        write_row(&mut out[..], e, list, n, a);
-        a = a + 1;
-    }
-}
-
-fn write_zeros(out: &mut [i64], from: usize)
-    requires { ⌜ (length (now out) ≡ 4096) × (from ≤ 4096) ⌝ }
-    ensures { λ _. ⌜ Ends from (now (out .entry)) (now (out .exit)) ⌝ }
-{
-    let mut d = from;
+    let mut d: usize = 0;
     while d < 4096 {
         out[d] = 0;
         d = d + 1;
     }
 }
 
+// Row a, of the decision i: its edges to the decisions of the mask m that remain.
+fn write_row(
+    out: &mut [i64],
+    e: &[i64; 4096],
+    places: &[u8; 64],
+    n: usize,
+    m: u64,
+    i: usize,
+    a: usize,
+)
+    requires { ⌜ (length (now out) ≡ 4096) × (i < 64) × (a < n) × (n ≤ 64) × ((j : ℕ) → j < 64 → getD (now places) j 0 ≤ 64) ⌝ }
+    ensures { λ _. ⌜ ((list : List ℕ) → Places list n → Turned list (now (places .entry)) n → getD list a 0 ≡ i → Seen m i (now (e .entry))
+        → Row (edgeAt (now (e .entry)) list n) a (now (out .entry)) (now (out .exit))) ⌝ }
+{
+    let mut rest = m;
+    while rest != 0 {
+        let j = u64::trailing_zeros(rest) as usize;
+        let b = places[j] as usize;
+        if b < n {
+            let w = e[64 * i + j];
+            out[64 * a + b] = w;
+        }
+        rest = rest & (rest - 1);
+    }
+}
+
+fn write_rows(
+    out: &mut [i64],
+    e: &[i64; 4096],
+    masks: &[u64; 64],
+    list: &[u8; 64],
+    places: &[u8; 64],
+    n: usize,
+)
+    requires { ⌜ (now out ≡ replicate 4096 (pos 0)) × Places (now list) n × Turned (now list) (now places) n × ((k : ℕ) × Shows k (now e) (now masks)) ⌝ }
+    ensures { λ _. ⌜ now (out .exit) ≡ tab (edgeAt (now (e .entry)) (now (list .entry)) n) 4096 ⌝ }
+{
+    let mut a: usize = 0;
+    while a < n {
+        let i = list[a] as usize;
+        let m = masks[i];
+        write_row(&mut out[..], e, places, n, m, i, a);
+        a = a + 1;
+    }
+}
+
 // A row for each remaining decision; the rows below are zeros.
-pub fn write_edges(out: &mut [i64], e: &[i64; 4096], r: Remaining)
-    requires { ⌜ (length (now out) ≡ 4096) × Places (r .list) (r .len) ⌝ }
+pub fn write_edges(out: &mut [i64], e: &[i64; 4096], masks: &[u64; 64], r: Remaining)
+    requires { ⌜ (length (now out) ≡ 4096) × Places (r .list) (r .len) × Turned (r .list) (r .places) (r .len) × ((k : ℕ) × Shows k (now e) (now masks)) ⌝ }
     ensures { λ _. ⌜ now (out .exit) ≡ tab (edgeAt (now (e .entry)) (r .list) (r .len)) 4096 ⌝ }
 {
     let list = r.list;
+    let places = r.places;
     let n = r.len;
-    write_rows(&mut out[..], e, &list, n);
-    write_zeros(&mut out[..], 64 * n);
+    write_zeros(&mut out[..]);
+    write_rows(&mut out[..], e, masks, &list, &places, n);
 }

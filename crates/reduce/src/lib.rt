@@ -148,7 +148,7 @@ fn accepted(
     let left = ended.state.frame;
     let rest = outputs::still_there(left);
     outputs::write_linear(&mut linear[..], &lin, rest);
-    outputs::write_edges(&mut edges[..], &edg, rest);
+    outputs::write_edges(&mut edges[..], &edg, &masks, rest);
     report(ended, rest.len)
 }
 

@@ -152,10 +152,10 @@ pub fn run(
     budget: u32,
 ) -> Ended
     requires { ⌜ Started frame (now lin) (now edges) × Shows (frame .n) (now edges) (now masks) ⌝ }
-    ensures { λ r. ⌜ ((m q : List ℕ) × Ends (ran budget switches (begun switches (held frame (now (lin .entry)) (now (edges .entry))))) r (lent (now (lin .exit)) (now (edges .exit)) m q)) ⌝ }
+    ensures { λ r. ⌜ ((q : List ℕ) × Ends (ran budget switches (begun switches (held frame (now (lin .entry)) (now (edges .entry))))) r (lent (now (lin .exit)) (now (edges .exit)) (now (masks .exit)) q)) ⌝ }
 {
     let mut ring = [0u8; 64];
-    let first = state::begin(edges, &mut ring, frame, switches);
+    let first = state::begin(masks, &mut ring, frame, switches);
     let none = steps::no_steps();
     let start = Come {
         state: first,

@@ -18,7 +18,7 @@ use Rattle.rules.specs.Fixing.{start}
 use Rattle.rules.specs.Size.{Within}
 use Rattle.meaning.specs.Cost.{when, sum-zero, sum-point, rowCost, costOf, deltaOf}
 use Rattle.meaning.specs.CostLaws.{cost, Shaped, drop-cost}
-use Rattle.meaning.specs.EliminateLaws.{zero-of}
+use Rattle.whole.specs.Cmp.{zero-of}
 use Rattle.meaning.specs.Neat.{Neat}
 use Rattle.accepted.specs.Accept.{Fit}
 use Rattle.objective_cost.specs.ObjectiveCost.{linearCost, termsCost, costOfObjective, withFixings}

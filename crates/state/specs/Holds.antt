@@ -56,9 +56,9 @@ pub record Reducible (s : State) (frame : Frame) (counts : Tally) (ring : List �
   pub kept : Kept (s .queue) ring
   pub roomy : Roomy (s .tally) counts
 
--- a reduction of i that left the graph g, whose edges are e, with the step y: the state after it
-abbrev pub Reduces : State → Frame → ℕ → Tally → ℕ → State → List ℤ → List ℕ → List ℕ → Type 0
-Reduces s frame near counts sw r e q q′ =
-    (S : run.State) (l₀ e₀ l : List ℤ) (m₀ m : List ℕ) (i : ℕ) (g : Graph) (y : rule.Step)
+-- a reduction of i that left the graph g, whose edges the masks m show, with the step y: the state after it
+abbrev pub Reduces : State → Frame → ℕ → Tally → ℕ → State → List ℕ → List ℕ → List ℕ → Type 0
+Reduces s frame near counts sw r m q q′ =
+    (S : run.State) (l₀ e₀ l e : List ℤ) (m₀ : List ℕ) (i : ℕ) (g : Graph) (y : rule.Step)
     → Holds S s (lent l₀ e₀ m₀ q) → held frame l e ≡ g → Shows (frame .n) e m → these near ≡ neighbours (S .graph) i
     → Holds (run.reduced sw S i g y (tallyOf counts)) r (lent l e m q′)

@@ -46,12 +46,12 @@ pub fn more(t: Tally, u: Tally) -> Tally
 }
 
 // A state before anything is taken.
-pub fn begin(edges: &[i64; 4096], ring: &mut [u8; 64], frame: Frame, switches: u32) -> State
+pub fn begin(masks: &[u64; 64], ring: &mut [u8; 64], frame: Frame, switches: u32) -> State
     requires { ⌜ (frame .n ≤ 64) × (length (now ring) ≡ 64) ⌝ }
-    ensures { λ r. ⌜ ((l : List ℤ) (m : List ℕ) → Shows (frame .n) (now (edges .entry)) m → Holds (begun switches (held frame l (now (edges .entry)))) r (lent l (now (edges .entry)) m (now (ring .exit)))) × (r .frame ≡ frame) ⌝ }
+    ensures { λ r. ⌜ ((l e : List ℤ) → Shows (frame .n) e (now (masks .entry)) → Holds (begun switches (held frame l e)) r (lent l e (now (masks .entry)) (now (ring .exit)))) × (r .frame ≡ frame) ⌝ }
 {
     let n = frame.n;
-    let queue = waiting::first_queue(edges, ring, &frame.states, n, switches);
+    let queue = waiting::first_queue(masks, ring, &frame.states, n, switches);
     let none = Tally {
         eliminated: 0,
         three: 0,
@@ -71,7 +71,7 @@ pub fn begin(edges: &[i64; 4096], ring: &mut [u8; 64], frame: Frame, switches: u
 
 // After a reduction: its counts, and its neighbours as they were, a mask of them, who may join the queue.
 pub fn reduced(
-    edges: &[i64; 4096],
+    masks: &[u64; 64],
     ring: &mut [u8; 64],
     s: State,
     frame: Frame,
@@ -80,10 +80,9 @@ pub fn reduced(
     switches: u32,
 ) -> State
     requires { ⌜ Reducible s frame counts (now ring) ⌝ }
-    ensures { λ r. ⌜ Reduces s frame near counts switches r (now (edges .entry)) (now (ring .entry)) (now (ring .exit)) ⌝ }
+    ensures { λ r. ⌜ Reduces s frame near counts switches r (now (masks .entry)) (now (ring .entry)) (now (ring .exit)) ⌝ }
 {
-    let n = frame.n;
-    let queue = waiting::rejoin(edges, ring, &frame.states, n, switches, s.queue, near);
+    let queue = waiting::rejoin(masks, ring, &frame.states, switches, s.queue, near);
     let tally = more(s.tally, counts);
     State {
         frame: frame,

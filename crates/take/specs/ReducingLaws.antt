@@ -53,13 +53,13 @@ module _ (s : State) (w : Lent) (i : ℕ) (r : Ready s w i) where
   reducible f t n o = record { few = omega (arith, r .few, n); kept = r .kept; roomy = roomy t o }
 
   -- the graph changes, a step is made, and the neighbours as they were rejoin
-  pub finish : (sw : ℕ) (f : Frame) (x : Step) (t : Tally) (r : State) (l e : List ℤ) (m q : List ℕ) → Reduces s f (getD (w .masks) i 0) t sw r e (w .ring) q
+  pub finish : (sw : ℕ) (f : Frame) (x : Step) (t : Tally) (r : State) (l e : List ℤ) (m q : List ℕ) → Reduces s f (getD (w .masks) i 0) t sw r m (w .ring) q
       → (change : Graph → Graph) (make : Graph → rule.Step) → held f l e ≡ change (graphIn s w) → f .n ≡ s .frame .n → Shows (s .frame .n) e m → x ≡ hold (make (graphIn s w))
       → (S : run.State) → Holds S s w → Went S (run.reduced sw S i (change (S .graph)) (make (S .graph)) (tallyOf t)) (record { state = r; step = x; stepped = true }) (lent l e m q)
   unfolding run.reduced
   finish sw f x t r l e m q red change make p n sh k S h = record {
     holds =
-        red S (w .linear) (w .edges) l (w .masks) m i (change (S .graph)) (make (S .graph)) h (p ∙ ap change (h .graph)) (subst (λ (j : ℕ). Shows j e m) (sym n) sh)
+        red S (w .linear) (w .edges) l e (w .masks) i (change (S .graph)) (make (S .graph)) h (p ∙ ap change (h .graph)) (subst (λ (j : ℕ). Shows j e m) (sym n) sh)
         (around ∙ ap (λ (g : Graph). neighbours g i) (h .graph));
     no = λ f. clash refl f;
     yes = λ _. (make (S .graph), (k ∙ ap (λ (g : Graph). hold (make g)) (h .graph), refl));

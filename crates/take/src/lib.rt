@@ -75,7 +75,7 @@ fn low(
     };
     let frame = done.frame;
     let step = done.step;
-    let next = state::reduced(edges, ring, s, frame, before, one, switches);
+    let next = state::reduced(masks, ring, s, frame, before, one, switches);
     Taken {
         state: next,
         step: step,
@@ -113,7 +113,7 @@ fn three(
     };
     let frame = tried.frame;
     let step = tried.step;
-    let next = state::reduced(edges, ring, s, frame, before, one, switches);
+    let next = state::reduced(masks, ring, s, frame, before, one, switches);
     Taken {
         state: next,
         step: step,
@@ -159,7 +159,7 @@ fn into(
     };
     let frame = done.frame;
     let step = done.step;
-    let next = state::reduced(edges, ring, s, frame, before, one, switches);
+    let next = state::reduced(masks, ring, s, frame, before, one, switches);
     Taken {
         state: next,
         step: step,

@@ -28,31 +28,30 @@ fn highest(switches: u32) -> usize
     2
 }
 
-pub fn is_eligible(edges: &[i64; 4096], n: usize, switches: u32, i: usize) -> bool
-    requires { ⌜ (i < 64) × (n ≤ 64) ⌝ }
-    ensures { λ r. ⌜ Eligible r switches (now (edges .entry)) n i ⌝ }
+pub fn is_eligible(masks: &[u64; 64], switches: u32, i: usize) -> bool
+    requires { ⌜ i < 64 ⌝ }
+    ensures { λ r. ⌜ Eligible r switches (now (masks .entry)) i ⌝ }
 {
     if on(switches, 4) {
         return true;
     }
     if on(switches, 1) {
-        return graph::degree(edges, n, i) <= highest(switches);
+        return graph::degree(masks, i) <= highest(switches);
     }
     false
 }
 
 // One joins the back if active, not waiting and now eligible.
 fn join_one(
-    edges: &[i64; 4096],
+    masks: &[u64; 64],
     ring: &mut [u8; 64],
     states: &[u8; 64],
-    n: usize,
     switches: u32,
     q: Queue,
     j: usize,
 ) -> Queue
-    requires { ⌜ (n ≤ 64) × (j < 64) × Kept q (now ring) ⌝ }
-    ensures { λ r. ⌜ Kept r (now (ring .exit)) × Listed (items r (now (ring .exit))) (items q (now (ring .entry))) switches (now (edges .entry)) n (now (states .entry)) j ⌝ }
+    requires { ⌜ (j < 64) × Kept q (now ring) ⌝ }
+    ensures { λ r. ⌜ Kept r (now (ring .exit)) × Listed (items r (now (ring .exit))) (items q (now (ring .entry))) switches (now (masks .entry)) (now (states .entry)) j ⌝ }
 {
     if states[j] != 2 {
         return q;
@@ -60,7 +59,7 @@ fn join_one(
     if q.waits(j) {
         return q;
     }
-    if is_eligible(edges, n, switches, j) {
+    if is_eligible(masks, switches, j) {
         return q.push(ring, j);
     }
     q
@@ -68,19 +67,19 @@ fn join_one(
 
 // "A pass queues, ascending, every active decision that is eligible."
 pub fn first_queue(
-    edges: &[i64; 4096],
+    masks: &[u64; 64],
     ring: &mut [u8; 64],
     states: &[u8; 64],
     n: usize,
     switches: u32,
 ) -> Queue
     requires { ⌜ (n ≤ 64) × (length (now ring) ≡ 64) ⌝ }
-    ensures { λ r. ⌜ Waits (items r (now (ring .exit))) switches (now (edges .entry)) n (now (states .entry)) × Kept r (now (ring .exit)) ⌝ }
+    ensures { λ r. ⌜ Waits (items r (now (ring .exit))) switches (now (masks .entry)) n (now (states .entry)) × Kept r (now (ring .exit)) ⌝ }
 {
     let mut q = Queue::new();
     let mut i: usize = 0;
     while i < n {
-        q = join_one(edges, ring, states, n, switches, q, i);
+        q = join_one(masks, ring, states, switches, q, i);
         i = i + 1;
     }
     q
@@ -88,22 +87,21 @@ pub fn first_queue(
 
 // "its neighbours as they were (ascending) join the back": those of the mask.
 pub fn rejoin(
-    edges: &[i64; 4096],
+    masks: &[u64; 64],
     ring: &mut [u8; 64],
     states: &[u8; 64],
-    n: usize,
     switches: u32,
     queue: Queue,
     near: u64,
 ) -> Queue
-    requires { ⌜ (n ≤ 64) × Kept queue (now ring) ⌝ }
-    ensures { λ r. ⌜ Joins (items r (now (ring .exit))) (items queue (now (ring .entry))) switches (now (edges .entry)) n (now (states .entry)) (these near) × Kept r (now (ring .exit)) ⌝ }
+    requires { ⌜ Kept queue (now ring) ⌝ }
+    ensures { λ r. ⌜ Joins (items r (now (ring .exit))) (items queue (now (ring .entry))) switches (now (masks .entry)) (now (states .entry)) (these near) × Kept r (now (ring .exit)) ⌝ }
 {
     let mut q = queue;
     let mut rest = near;
     while rest != 0 {
         let j = u64::trailing_zeros(rest) as usize;
-        q = join_one(edges, ring, states, n, switches, q, j);
+        q = join_one(masks, ring, states, switches, q, j);
         rest = rest & (rest - 1);
     }
     q

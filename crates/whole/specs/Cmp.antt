@@ -1,6 +1,6 @@
 -- Comparisons: a test's two outcomes, the lesser of two numbers, the lesser of a number and 0, the test for 0.
 -- Assumes nothing.
-use mathlib.Core.Path.{_≡_, refl}
+use mathlib.Core.Path.{_≡_, refl, ap}
 use mathlib.Core.Bool.{Bool, true, false, cond, not}
 use Prim.Native.Nat.{zero, suc, _^_, _<_, _≤_}
 use native.Mathlib.Omega.{arith}
@@ -8,8 +8,9 @@ use lib.IntN.{ℤ, pos, negsuc, _+ℤ_}
 use lib.Signed.{ltZ, mag, _≤ℤ_}
 use mir.Syntax.{w64}
 use mir.Val.{ofZ}
-use borrow.Author.Tests.{eq-eqb, ne-eqb}
+use borrow.Author.Tests.{eqb-true, eq-eqb, ne-eqb}
 use Rattle.whole.specs.Words.{isZeroZ, below0, above0}
+use Rattle.whole.specs.Tests.{clash}
 use Rattle.whole.specs.Parts.{∣_∣}
 use Rattle.whole.specs.Ints.{ints, zarith}
 
@@ -65,3 +66,7 @@ pub ≤ℤ-trans : {a b c : ℤ} → a ≤ℤ b → b ≤ℤ c → a ≤ℤ c
 
 pub ≤ℤ-antisym : {a b : ℤ} → a ≤ℤ b → b ≤ℤ a → a ≡ b
 ≤ℤ-antisym {a} {b} h k = simp ints (omega zarith)
+
+pub zero-of : (z : ℤ) → isZeroZ z ≡ true → z ≡ pos 0
+zero-of (pos n) h = ap pos (eqb-true n 0 h)
+zero-of (negsuc n) h = clash h refl

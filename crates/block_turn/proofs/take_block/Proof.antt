@@ -53,11 +53,12 @@ returns c = λ S h k.
     let a = s z .args in
     let b = take (a .found .count) (a .found .order) in
     let few : length b ≡ a .found .count = length-take-le (a .found .count) (a .found .order) (omega (arith, p .block .long, p .eight)) in
+    let seen : Shows (e .result .frame .n) (e .last .1 .0) (e .last .1 .1 .0) = subst (λ (n : ℕ). Shows n (e .last .1 .0) (e .last .1 .1 .0)) (sym (same-n z)) (e .ensures .1) in
     let left : held (e .result .frame) (e .last .0) (e .last .1 .0) ≡ eliminateBlock b (S .graph) = e .ensures .0 ∙ ap (eliminateBlock b) (h .graph) in (
       record {
         graph = left;
-        shown = subst (λ (n : ℕ). Shows n (e .last .1 .0) (e .last .1 .1 .0)) (sym (same-n z)) (e .ensures .1);
-        queue = c .before .before .first-queue .ensures .0 (e .result .frame .constant) (e .last .0) ∙ ap (run.waiting (a .switches)) left;
+        shown = seen;
+        queue = c .before .before .first-queue .ensures .0 (e .result .frame .constant) (e .last .0) (e .last .1 .0) seen ∙ ap (run.waiting (a .switches)) left;
         kept = c .before .before .first-queue .ensures .1;
         counted = c .before .more .ensures ∙ ap₂ (λ (t : run.Tally) (k : ℕ). run.plus t (run.tally 0 0 0 0 0 k)) (h .counted) (sym few);
         takes = h .takes;

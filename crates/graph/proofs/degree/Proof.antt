@@ -1,62 +1,39 @@
-use Rattle.graph.specs.NearLaws.{there}
-use Rattle.rules.specs.Graph.{neighbours}
-use Rattle.whole.specs.Words.{from, upto, those}
-use Rattle.whole.specs.Those.{those-more, those-same}
-use Rattle.whole.specs.Cmp.{zero-is, zero-not}
-use lib.IntN.{pos}
-use lib.ListN.{length, getD, length-append}
-use denote.Ref.{now}
-use mathlib.Core.List.{[], _∷_}
-use mathlib.Core.Logic.{⊎-elim}
-use mathlib.Core.Path.{_≡_, refl, ap, _∙_}
+use Rattle.whole.specs.Masks.{these, these-apart, these-end, these-length, Turn, turn}
+use Rattle.whole.specs.Pigeon.{pigeon}
+use Prim.Native.Nat.{ℕ, _+_, _^_, _<_}
 use native.Mathlib.Omega.{arith}
-use Prim.Native.Nat.{ℕ, _≤_, _-_, _+_, _*_}
+use mathlib.Core.Path.{_≡_, ap}
+use lib.ListN.{length}
 use borrow.Author.Needs.{needs}
 use Rattle.graph.proofs.degree.Statement.{statement}
 use Rattle.graph.proofs.degree.Tie as tie
 
 abbrev Inv-loop : tie.InvT-loop
-Inv-loop edges n i d₀ j₀ d j = (j ≤ n) × (d ≤ j) × (d ≡ length (those (there edges i) (upto j)))
+Inv-loop masks i d₀ rest₀ d rest = (rest < 2 ^ 64) × (d + length (these rest) ≡ length (these rest₀))
 
 abbrev μ-loop : tie.MeasureT-loop
-μ-loop edges n i d₀ j₀ d j = n - j
+μ-loop masks i d₀ rest₀ d rest = rest
 
 loop-holds : tie.Need-loop-holds Inv-loop μ-loop
-unfolding those from
-loop-holds c = (omega arith, omega arith, refl)
+loop-holds c = (omega arith, omega arith)
+
+at : (t : tie.In-loop Inv-loop μ-loop) → Turn (t .before .loop .rest)
+at t = turn (t .before .loop .rest) (t .loop-test .taken) (t .before .loop .inv .0)
+
+add-d : tie.Need-add-d Inv-loop μ-loop
+add-d c = omega (arith, c .before .loop .inv .1, pigeon 64 (these-apart (c .before .before .mask-at .result)))
 
 loop-again : tie.Need-loop-again Inv-loop μ-loop
 loop-again c =
-    let l = c .before .before .before .loop in
-    let a = c .before .before .before .before .args in
-    let p = there (now (a .edges)) (a .i) in
-    let x = getD (now (a .edges)) (64 * a .i + l .j) (pos 0) in
-    ⊎-elim
-    (λ w. omega (arith, ap length (those-more p (l .j) (zero-not x (w .0 .taken))), length-append (those p (upto (l .j))) (l .j ∷ [])))
-    (λ w. omega (arith, ap length (those-same p (l .j) (zero-is x (c .before .w .given) (w .0 .left)))))
-    (c .if1 .came)
+    let l = c .before .loop in
+    (at c .smaller, omega (arith, l .inv .1, these-length (l .rest) (c .loop-test .taken) (l .inv .0)))
 
 returns : tie.Need-returns Inv-loop μ-loop
-unfolding neighbours
 returns c =
     let l = c .before .loop in
-    let a = c .before .before .args in
-    let e : l .j ≡ a .n = omega arith in
-    λ b y ss. l .inv .2 ∙ ap (λ (k : ℕ). length (those (there (now (a .edges)) (a .i)) (upto k))) e
+    omega (arith, l .inv .1, ap length (these-end (l .rest) (c .loop-test .left)), ap (λ (m : ℕ). length (these m)) (c .before .before .mask-at .ensures))
 
 pub degree-spec : {M : Type 1} → statement M
 degree-spec =
     tie.close
-    (tie.spec
-    Inv-loop
-    μ-loop
-    loop-holds
-    (λ c. search needs)
-    (λ c. search needs)
-    (λ c. search needs)
-    (λ c. search needs)
-    (λ c. search needs)
-    (λ c. search needs)
-    (λ c. search needs)
-    loop-again
-    returns)
+    (tie.spec Inv-loop μ-loop (λ c κs. search needs) loop-holds add-d (λ c. search needs) (λ c. at c .less) loop-again returns)

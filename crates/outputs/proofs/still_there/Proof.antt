@@ -1,4 +1,4 @@
-use Rattle.outputs.proofs.Laws.{zero-at, those-same, those-end, listed}
+use Rattle.outputs.proofs.Laws.{Listing, listing-begin, listing-same, listing-more, zero-at, those-same, those-end, listed}
 use Rattle.whole.specs.Lists.{below-set}
 use Rattle.outputs.specs.Out.{rest}
 use Rattle.whole.specs.Words.{those, from}
@@ -21,14 +21,14 @@ two ss i = eqb (getD ss i 0) 2
 
 abbrev Inv-loop : tie.InvT-loop
 Inv-loop f n r₀ i₀ r i =
-    (i ≤ n) × (r .len ≤ i) × (length (r .list) ≡ 64) × ((k : ℕ) → getD (r .list) k 0 < 64)
+    (i ≤ n) × (r .len ≤ i) × (length (r .list) ≡ 64) × ((k : ℕ) → getD (r .list) k 0 < 64) × Listing i (r .list) (r .places) (r .len)
     × (rest r ++ those (two (f .states)) (from i (n - i)) ≡ those (two (f .states)) (from 0 n))
 
 abbrev μ-loop : tie.MeasureT-loop
 μ-loop f n r₀ i₀ r i = n - i
 
 loop-holds : tie.Need-loop-holds Inv-loop μ-loop
-loop-holds c = (omega arith, omega arith, refl, zero-at 64, rw sub-zero)
+loop-holds c = (omega arith, omega arith, refl, zero-at 64, listing-begin, rw sub-zero)
 
 loop-again : tie.Need-loop-again Inv-loop μ-loop
 loop-again c =
@@ -44,14 +44,16 @@ loop-again c =
       omega arith,
       length-set (l .r .list) (l .r .len) (l .i) ∙ l .inv .2,
       below-set 64 (l .r .list) (l .r .len) (l .i) room (omega arith) (l .inv .3),
-      listed (two (f .states)) (f .n) (l .i) (l .r .list) (l .r .len) _ room lt (eq-eqb _ _ (w .0 .taken)) (l .inv .4),
+      listing-more (l .i) (l .r .list) (l .r .places) (l .r .len) (l .inv .4) (l .inv .2) (l .inv .1) (omega arith),
+      listed (two (f .states)) (f .n) (l .i) (l .r .list) (l .r .len) _ room lt (eq-eqb _ _ (w .0 .taken)) (l .inv .5),
     ))
     (λ w. rw (w .1) (
       omega arith,
       omega arith,
       l .inv .2,
       l .inv .3,
-      ap (λ (t : List ℕ). rest (l .r) ++ t) (sym (those-same (two (f .states)) (f .n) (l .i) lt (ne-eqb _ _ (w .0 .left)))) ∙ l .inv .4,
+      listing-same (l .i) (l .r .list) (l .r .places) (l .r .len) (l .inv .4),
+      ap (λ (t : List ℕ). rest (l .r) ++ t) (sym (those-same (two (f .states)) (f .n) (l .i) lt (ne-eqb _ _ (w .0 .left)))) ∙ l .inv .5,
     ))
     (c .if1 .came)
 
@@ -60,7 +62,7 @@ returns c =
     let l = c .before .loop in
     let s = c .before .before in
     let f = s .args .t1 in
-    (sym (append-nil _) ∙ ap (λ (t : List ℕ). rest (l .r) ++ t) (sym (those-end (two (f .states)) (f .n) (l .i) (omega arith))) ∙ l .inv .4, record { few = omega arith; long = l .inv .2; each = l .inv .3 })
+    (sym (append-nil _) ∙ ap (λ (t : List ℕ). rest (l .r) ++ t) (sym (those-end (two (f .states)) (f .n) (l .i) (omega arith))) ∙ l .inv .5, record { few = omega arith; long = l .inv .2; each = l .inv .3 }, l .inv .4 .turned)
 
 pub still-there-spec : {M : Type 1} → statement M
 still-there-spec =
@@ -69,6 +71,8 @@ still-there-spec =
     Inv-loop
     μ-loop
     loop-holds
+    (λ c. search needs)
+    (λ c. search needs)
     (λ c. search needs)
     (λ c. search needs)
     (λ c. search needs)

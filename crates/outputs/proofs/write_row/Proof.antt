@@ -1,47 +1,72 @@
 use mathlib.Core.Path.{_≡_, refl, _∙_}
-use Prim.Native.Nat.{ℕ, _+_, _*_, _-_, _<_, _≤_}
+use mathlib.Core.List.{List}
+use mathlib.Core.Logic.{⊎-elim}
+use Prim.Native.Nat.{ℕ, _+_, _*_, _^_, _<_}
 use native.Mathlib.Omega.{arith}
 use borrow.Author.Needs.{needs, sfits-of}
-use mir.Val.{ofZ, toZ, SFits}
+use denote.Ref.{now}
+use mir.Val.{SFits}
 use mir.Syntax.{w64}
-use lib.ListN.{length, length-set}
+use lib.Count.{trailingZeros}
+use lib.IntN.{pos}
+use lib.ListN.{length, getD, length-set}
 use Rattle.whole.specs.Ints.{rd}
-use Rattle.whole.specs.Lists.{fill-step}
-use Rattle.outputs.specs.Out.{edgeAt, Fills}
-use Rattle.outputs.proofs.Filling.{filled-at}
+use Rattle.whole.specs.Masks.{Turn, turn}
+use Rattle.outputs.specs.Out.{Places, Turned, Seen, edgeAt}
+use Rattle.outputs.proofs.Rows.{Storing, storing-begin, storing-more, storing-less, storing-end}
 use Rattle.outputs.proofs.write_row.Statement.{statement}
 use Rattle.outputs.proofs.write_row.Tie as tie
 
 abbrev Inv-loop : tie.InvT-loop
-Inv-loop out₀ e list n a b₀ out b = (b ≤ 64) × (length out ≡ length out₀) × Fills (edgeAt e list n) (64 * a) (64 * a + b) out₀ out
+Inv-loop out₀ e places n m i a rest₀ out rest =
+    (rest < 2 ^ 64) × (length out ≡ length out₀)
+    × ((list : List ℕ) → Places list n → Turned list places n → getD list a 0 ≡ i → Seen m i e → Storing (edgeAt e list n) list n a rest out₀ out)
 
 abbrev μ-loop : tie.MeasureT-loop
-μ-loop out₀ e list n a b₀ out b = 64 - b
+μ-loop out₀ e places n m i a rest₀ out rest = rest
 
 loop-holds : tie.Need-loop-holds Inv-loop μ-loop
-loop-holds c = (omega arith, refl, λ l h i. i ∙ filled-at _ l (64 * c .args .a) (64 * c .args .a + 0) (omega arith))
+loop-holds c =
+    let a = c .args in
+    (search needs, refl, λ list p t q s. storing-begin (now (a .e)) list (a .n) (a .i) (a .a) p q (c .pre .2) (a .m) s (now (a .out)))
 
-room : (a b n : ℕ) → a < n → n ≤ 64 → b < 64 → 64 * a + b < 4096
-room a b n h f k = omega arith
+at : (t : tie.In-loop Inv-loop μ-loop) → Turn (t .before .loop .rest)
+at t = turn (t .before .loop .rest) (t .loop-test .taken) (t .before .loop .inv .0)
+
+cast-b : tie.Need-cast-b Inv-loop μ-loop
+cast-b c = omega (arith, c .before .before .before .pre .4 (trailingZeros 64 (c .before .before .loop .rest)) (at (c .before) .below))
+
+loop-less : tie.Need-loop-less Inv-loop μ-loop
+loop-less c = at (c .before .before) .less
 
 loop-again : tie.Need-loop-again Inv-loop μ-loop
 loop-again c =
-    let l = c .before .before .loop in
-    let s = c .before .before .before in
-    let k = 64 * s .args .a + l .b in
-    let f : SFits w64 (c .edge-entry .result) = sfits-of (c .edge-entry .ok) in
-    let v = rd f ∙ c .edge-entry .ensures in
-    let r : k < 4096 = room (s .args .a) (l .b) (s .args .n) (s .pre .1) (s .pre .2 .few) (omega arith) in (
-      omega arith,
-      length-set (l .out) k (toZ w64 (ofZ w64 (c .edge-entry .result))) ∙ l .inv .1,
-      λ o h i. fill-step _ o (l .out) k _ (omega (arith, h, r)) (l .inv .2 o h i) v ∙ filled-at _ o (k + 1) (64 * s .args .a + (l .b + 1)) (omega arith),
-    )
+    let t = c .before .before in
+    let l = t .before .loop in
+    let s = t .before .before in
+    let a = s .args in
+    let e = now (a .e) in
+    let low = at t .smaller in
+    ⊎-elim
+    (λ w.
+    let f : SFits w64 (getD e (64 * a .i + trailingZeros 64 (l .rest)) (pos 0)) = sfits-of (w .1 .given) in
+    rw (w .2) (
+      low,
+      length-set (l .out) _ _ ∙ l .inv .1,
+      λ list p q r v. storing-more e list (a .n) (a .i) (a .a) p r (s .pre .2) (now (a .places)) q (l .rest) (t .loop-test .taken) (l .inv .0) (now (a .out)) (l .out) (l .inv .2 list p q r v) _ (omega arith) (w .0 .taken) (rd f),
+    ))
+    (λ w. rw (w .1) (
+      low,
+      l .inv .1,
+      λ list p q r v. storing-less e list (a .n) (a .i) (a .a) p r (s .pre .2) (now (a .places)) q (l .rest) (t .loop-test .taken) (l .inv .0) (now (a .out)) (l .out) (l .inv .2 list p q r v) (w .0 .left),
+    ))
+    (c .if1 .came)
 
 returns : tie.Need-returns Inv-loop μ-loop
 returns c =
     let l = c .before .loop in
-    let e : l .b ≡ 64 = omega arith in
-    λ o h i. l .inv .2 o h i ∙ filled-at _ o (64 * c .before .before .args .a + l .b) (64 * c .before .before .args .a + 64) (omega arith)
+    let a = c .before .before .args in
+    λ list p t q s. storing-end (edgeAt (now (a .e)) list (a .n)) list (a .n) (a .a) (l .rest) (now (a .out)) (l .out) (c .loop-test .left) (l .inv .1) (l .inv .2 list p t q s)
 
 pub write-row-spec : {M : Type 1} → statement M
 write-row-spec =
@@ -50,13 +75,19 @@ write-row-spec =
     Inv-loop
     μ-loop
     loop-holds
-    (λ c κs. search needs)
+    (λ c. omega (arith, at c .below))
+    (λ c. omega (arith, at c .below))
+    cast-b
     (λ c. search needs)
-    (λ c. omega (arith, c .before .before .before .pre .1, c .before .before .before .pre .2 .few))
+    (λ c. omega (arith, at (c .before .before) .below))
+    (λ c. omega (arith, at (c .before .before) .below))
+    (λ c. omega (arith, at (c .before .before) .below))
     (λ c. search needs)
-    (λ c. omega (arith, c .before .before .before .pre .1, c .before .before .before .pre .2 .few, c .before .before .loop .inv .1, c .before .before .before .pre .0))
     (λ c. search needs)
     (λ c. search needs)
+    (λ c. search needs)
+    (λ c. search needs)
+    loop-less
     loop-again
     (λ c. search needs)
     returns)

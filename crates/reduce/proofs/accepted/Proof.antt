@@ -28,12 +28,12 @@ module _ (r : tie.After-run) where
   given = let a = start .args in objective (a .n) (now (a .weights)) (now (a .firsts)) (now (a .seconds)) (now (a .term-weights)) (now (a .fixings)) (a .switches) (a .budget)
 
   abbrev held-at-end : Lent
-  held-at-end = lent (r .run .last .0) (r .run .last .1 .0) (r .run .ensures .0) (r .run .ensures .1)
+  held-at-end = lent (r .run .last .0) (r .run .last .1 .0) (r .run .last .1 .1 .0) (r .run .ensures .0)
 
   ends : Ends (rule.ended given) (r .run .result) held-at-end
   ends =
       let b = r .before .before .before .before .begin in
-      ended-at given (held (b .result) (b .last .0) (b .last .1 .0)) (r .run .result) held-at-end (b .ensures .0 (given .switches) (given .budget)) (r .run .ensures .2)
+      ended-at given (held (b .result) (b .last .0) (b .last .1 .0)) (r .run .result) held-at-end (b .ensures .0 (given .switches) (given .budget)) (r .run .ensures .1)
 
   fits : Fit given
   fits = start .pre .fit
@@ -60,12 +60,13 @@ write-linear-requires c κs =
 
 write-edges-requires : tie.Need-write-edges-requires
 write-edges-requires c κs =
-    let t = c .before .before .before .before .before .before in
-    (t .before .before .before .before .before .before .before .before .before .before .before .before .before .pre .outEdges, t .still-there .ensures .1)
+    let t = c .before .before .before .before .before .before .before in
+    let r = t .before .before in
+    (start r .pre .outEdges, t .still-there .ensures .1, t .still-there .ensures .2, (r .run .result .state .frame .n, ends r .state .shown))
 
 report-requires : tie.Need-report-requires
 report-requires c κs =
-    let t = c .before .before .before .before .before .before .before .before in
+    let t = c .before .before .before .before .before .before .before .before .before in
     let r = t .before .before in
     let e = ends r in (
       end-few (given r) (fits r) (r .run .result) (held-at-end r) e,
@@ -78,7 +79,7 @@ report-requires c κs =
 returns : tie.Need-returns
 returns c =
     let we = c .before .before in
-    let wl = we .before .before .before .before in
+    let wl = we .before .before .before .before .before in
     let t = wl .before .before .before in
     let r = t .before .before in
     done (given r) (fits r) (r .run .result) (held-at-end r) (ends r) (t .still-there .result) (t .still-there .ensures .0) (t .still-there .ensures .1)

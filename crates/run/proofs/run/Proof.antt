@@ -37,7 +37,7 @@ pass-requires c κs =
     let b = n .before in
     let s = b .before .before .before in
     let a = s .args in
-    (end s, along-begin (a .budget) (a .switches) (a .frame) (b .begin .result) (n .no-steps .result) (now (a .lin)) (now (a .edges)) (now (a .masks)) _ (s .pre .0) (b .begin .ensures .0 (now (a .lin)) (now (a .masks)) (s .pre .1)) (n .no-steps .ensures))
+    (end s, along-begin (a .budget) (a .switches) (a .frame) (b .begin .result) (n .no-steps .result) (now (a .lin)) (now (a .edges)) (now (a .masks)) _ (s .pre .0) (b .begin .ensures .0 (now (a .lin)) (now (a .edges)) (s .pre .1)) (n .no-steps .ensures))
 
 -- the first pass is on the way there
 module _ (p : tie.After-pass Inv-loop μ-loop) where
@@ -50,7 +50,7 @@ module _ (p : tie.After-pass Inv-loop μ-loop) where
       let n = p .before .before .before .before .before in
       let b = n .before in
       let a = start .args in
-      p .pass .ensures .0 (end start) (along-begin (a .budget) (a .switches) (a .frame) (b .begin .result) (n .no-steps .result) (now (a .lin)) (now (a .edges)) (now (a .masks)) _ (start .pre .0) (b .begin .ensures .0 (now (a .lin)) (now (a .masks)) (start .pre .1)) (n .no-steps .ensures))
+      p .pass .ensures .0 (end start) (along-begin (a .budget) (a .switches) (a .frame) (b .begin .result) (n .no-steps .result) (now (a .lin)) (now (a .edges)) (now (a .masks)) _ (start .pre .0) (b .begin .ensures .0 (now (a .lin)) (now (a .edges)) (start .pre .1)) (n .no-steps .ensures))
 
 loop-holds : tie.Need-loop-holds Inv-loop μ-loop
 loop-holds c = (c .pass .ensures .2, λ E a. a)
@@ -90,7 +90,6 @@ returns : tie.Need-returns Inv-loop μ-loop
 returns c =
     let t = c .before .before .before in
     let m = t .before .before .before .before .before .before .before in (
-      t .turn .last .1 .1 .0,
       t .turn .last .1 .1 .1 .0,
       subst (λ (r : Ended). Ends (end (origin m)) r (lent (t .turn .last .0) (t .turn .last .1 .0) (t .turn .last .1 .1 .0) (t .turn .last .1 .1 .1 .0))) (sym (c .ends-at .ensures))
           (t .turn .ensures .0 (end (origin m)) (here m) .ends (c .before .if2 .left)),
@@ -107,7 +106,6 @@ returns-2 c =
     let m = d .before .before .before .before in
     let l = m .loop in
     let w = lent (l .lin) (l .edges) (l .masks) (l .ring) in (
-      l .masks,
       l .ring,
       subst (λ (r : Ended). Ends (end (origin m)) r (lent (l .lin) (l .edges) (l .masks) (l .ring))) (sym (c .ends-at2 .ensures))
           (along-cut _ _ (end (origin m)) (l .come .state) (l .come .steps) (l .come .units) w (here m) (d .is-due .result) (omega (arith, d .before .before .if1 .left))

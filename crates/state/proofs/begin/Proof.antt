@@ -9,10 +9,10 @@ unfolding run.begin
 returns c =
     let a = c .before .before .before .before .args in
     let q = c .first-queue in (
-      (λ l m h. record {
+      (λ l e h. record {
         graph = refl;
         shown = h;
-        queue = q .ensures .0 (a .t3 .constant) l;
+        queue = q .ensures .0 (a .t3 .constant) l e h;
         kept = q .ensures .1;
         counted = refl;
         takes = refl;

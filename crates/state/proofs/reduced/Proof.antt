@@ -13,14 +13,14 @@ use Rattle.state.proofs.reduced.Tie as tie
 
 returns : tie.Need-returns
 unfolding run.reduced
-returns c = λ S l₀ e₀ l m₀ m i g y h eg em en.
+returns c = λ S l₀ e₀ l e m₀ i g y h eg em en.
     let a = c .before .before .before .before .before .args in
     let j = c .before .rejoin .ensures in
     record {
       graph = eg;
       shown = em;
       queue =
-          j .0 (a .t4 .constant) l ∙ ap (λ (x : Graph). run.join (a .switches) x (these (a .near)) (items (a .s .queue) (now (a .ring)))) eg
+          j .0 (a .t4 .n) (a .t4 .constant) l e (c .before .before .before .before .before .pre .few) em ∙ ap (λ (x : Graph). run.join (a .switches) x (these (a .near)) (items (a .s .queue) (now (a .ring)))) eg
           ∙ ap₂ (λ (js q : List ℕ). run.join (a .switches) g js q) en (h .queue);
       kept = j .1;
       counted = c .more .ensures ∙ ap (λ (t : run.Tally). run.plus t (tallyOf (a .counts))) (h .counted);

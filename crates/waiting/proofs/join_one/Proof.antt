@@ -11,21 +11,21 @@ returns : tie.Need-returns
 returns c =
     let s = c .before .before in
     let a = s .args in
-    (s .pre .2, λ k l. not-active (a .switches) (graph (a .n) k l (now (a .edges)) (now (a .states))) (items (a .q) (now (a .ring))) (a .j) (c .if1 .taken))
+    (s .pre .1, λ n k l e f h. not-active (a .switches) (graph n k l e (now (a .states))) (items (a .q) (now (a .ring))) (a .j) (c .if1 .taken))
 
 returns-2 : tie.Need-returns-2
 returns-2 c =
     let one = c .before .before in
     let s = one .before .before in
     let a = s .args in
-    (s .pre .2, λ k l. already (a .switches) (graph (a .n) k l (now (a .edges)) (now (a .states))) (items (a .q) (now (a .ring))) (a .j) (one .if1 .left) (sym (c .before .waits .ensures (now (a .ring)) (s .pre .2)) ∙ c .if2 .taken))
+    (s .pre .1, λ n k l e f h. already (a .switches) (graph n k l e (now (a .states))) (items (a .q) (now (a .ring))) (a .j) (one .if1 .left) (sym (c .before .waits .ensures (now (a .ring)) (s .pre .1)) ∙ c .if2 .taken))
 
 push-requires : tie.Need-push-requires
 push-requires c κs =
     let two = c .before .before .before in
     let s = two .before .before .before .before in
     let a = s .args in
-    (s .pre .2, s .pre .1, sym (two .before .waits .ensures (now (a .ring)) (s .pre .2)) ∙ two .if2 .left)
+    (s .pre .1, s .pre .0, sym (two .before .waits .ensures (now (a .ring)) (s .pre .1)) ∙ two .if2 .left)
 
 returns-3 : tie.Need-returns-3
 returns-3 c =
@@ -34,7 +34,7 @@ returns-3 c =
     let one = two .before .before in
     let s = one .before .before in
     let a = s .args in
-    (c .push .ensures .1, λ k l. c .push .ensures .0 ∙ joined (a .switches) (graph (a .n) k l (now (a .edges)) (now (a .states))) (items (a .q) (now (a .ring))) (a .j) (one .if1 .left) (sym (two .before .waits .ensures (now (a .ring)) (s .pre .2)) ∙ two .if2 .left) (sym (three .before .is-eligible .ensures k l (now (a .states))) ∙ three .if3 .taken))
+    (c .push .ensures .1, λ n k l e f h. c .push .ensures .0 ∙ joined (a .switches) (graph n k l e (now (a .states))) (items (a .q) (now (a .ring))) (a .j) (one .if1 .left) (sym (two .before .waits .ensures (now (a .ring)) (s .pre .1)) ∙ two .if2 .left) (sym (three .before .is-eligible .ensures n k l e (now (a .states)) f h) ∙ three .if3 .taken))
 
 returns-4 : tie.Need-returns-4
 returns-4 c =
@@ -42,7 +42,7 @@ returns-4 c =
     let one = two .before .before in
     let s = one .before .before in
     let a = s .args in
-    (s .pre .2, λ k l. not-eligible (a .switches) (graph (a .n) k l (now (a .edges)) (now (a .states))) (items (a .q) (now (a .ring))) (a .j) (one .if1 .left) (sym (two .before .waits .ensures (now (a .ring)) (s .pre .2)) ∙ two .if2 .left) (sym (c .before .is-eligible .ensures k l (now (a .states))) ∙ c .if3 .left))
+    (s .pre .1, λ n k l e f h. not-eligible (a .switches) (graph n k l e (now (a .states))) (items (a .q) (now (a .ring))) (a .j) (one .if1 .left) (sym (two .before .waits .ensures (now (a .ring)) (s .pre .1)) ∙ two .if2 .left) (sym (c .before .is-eligible .ensures n k l e (now (a .states)) f h) ∙ c .if3 .left))
 
 pub join-one-spec : {M : Type 1} → statement M
 join-one-spec =
