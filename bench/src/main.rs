@@ -3,6 +3,7 @@
 mod blocks;
 #[path = "../../bindings/rust/tests/common/lent.rs"]
 mod lent;
+mod others;
 mod plot;
 mod sets;
 mod times;
@@ -26,8 +27,9 @@ fn main() {
         std::process::exit(2);
     };
     let budget = milliseconds.parse().expect("a number of milliseconds");
-    let rows: Vec<Row> = sets::sets().iter().flat_map(|set| rows(set, budget)).collect();
-    let text = told(milliseconds, &rows) + &blocks::told(budget);
+    let sets = sets::sets();
+    let rows: Vec<Row> = sets.iter().flat_map(|set| rows(set, budget)).collect();
+    let text = told(milliseconds, &rows) + &others::told(&sets, budget) + &blocks::told(budget);
     print!("{text}");
     std::fs::write(table, text).expect("the table is written");
     std::fs::write(plot, plot::svg(&rows)).expect("the plot is written");
