@@ -32,7 +32,7 @@ fn grow_unbroken(record: Record, answer: &[u8], plan: &mut [u8]) -> u8
 pub fn grow_back(record: Record, answer: &[u8], plan: &mut [u8]) -> u8
     ensures { λ r. ⌜ GrownBack «record» (now (answer .entry)) (now (plan .entry)) r (now (plan .exit)) ⌝ }
 {
-    if record::broken::is_broken(record) {
+    if broken::is_broken(record) {
         return 12;
     }
     grow_unbroken(record, answer, plan)

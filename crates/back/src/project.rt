@@ -29,7 +29,7 @@ fn project_unbroken(record: Record, plan: &[u8], out: &mut [u8]) -> u8
 pub fn project(record: Record, plan: &[u8], out: &mut [u8]) -> u8
     ensures { λ r. ⌜ Projected «record» (now (plan .entry)) (now (out .entry)) r (now (out .exit)) ⌝ }
 {
-    if record::broken::is_broken(record) {
+    if broken::is_broken(record) {
         return 12;
     }
     project_unbroken(record, plan, out)

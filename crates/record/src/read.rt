@@ -7,7 +7,6 @@ ghost use mathlib.Core.List.{map};
 ghost use Rattle.whole.specs.Words.{upto};
 ghost use Rattle.rules.specs.Record.{edition, stepIn, recordIn, zerosIn, noRecord};
 ghost use Rattle.record.specs.Promises.{Reads};
-use crate::broken;
 use crate::number;
 use crate::sums;
 use rules::Reading;

@@ -6,7 +6,6 @@ ghost use lib.ListN.{length, replicate};
 ghost use lib.Seq.{sets};
 ghost use Rattle.rules.specs.Record.{edition, stepBytes, stepsBytes, body, blockOf};
 ghost use Rattle.record.specs.Promises.{Writes};
-use crate::broken;
 use crate::number;
 use crate::sums;
 use rules::Record;

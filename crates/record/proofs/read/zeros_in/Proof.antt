@@ -10,7 +10,7 @@ use lib.ListN.{getD}
 use denote.Ref.{now}
 use Rattle.whole.specs.Words.{from, all}
 use Rattle.rules.specs.Record.{zerosIn}
-use Rattle.record.proofs.Ranges.{all-fails, all-passes, all-over, front-fails, front-passes}
+use Rattle.broken.proofs.Ranges.{all-fails, all-passes, all-over, front-fails, front-passes}
 use Rattle.record.proofs.read.zeros_in.Statement.{statement}
 use Rattle.record.proofs.read.zeros_in.Tie as tie
 
