@@ -5,9 +5,8 @@ use mathlib.Core.List.{List, [], _∷_, map}
 use Prim.Native.Nat.{ℕ, zero, suc, _+_, _*_, _≤_}
 use native.Mathlib.Omega.{arith}
 use lib.ListN.{getD, set}
-use lib.IntN.{ℤ, pos, _+ℤ_}
+use lib.IntN.{ℤ, pos}
 use Rattle.whole.specs.Parts.{∣_∣}
-use Rattle.whole.specs.Ints.{ints}
 use Rattle.whole.specs.Words.{tab, upto}
 use Rattle.whole.specs.Lists.{tab-map}
 use Rattle.rules.specs.Graph.{clear}
@@ -27,15 +26,6 @@ set-at-most b (x ∷ l) (suc k) (suc j) v s h = set-at-most b l k j v (λ m. s (
 
 pub small-set : {b : ℕ} {l : List ℤ} (k : ℕ) (v : ℤ) → Small b l → ∣ v ∣ ≤ b → Small b (set l k v)
 small-set {b} {l} k v s h = record { each = λ j. set-at-most b l k j v (s .each) h }
-
--- one entry gains v; two entries of the same list gain it
-pub small-gain : {b c : ℕ} {l : List ℤ} (k : ℕ) (v : ℤ) → Small b l → ∣ v ∣ ≤ c → Small (b + c) (set l k (getD l k (pos 0) +ℤ v))
-small-gain {b} {c} {l} k v s h =
-    small-set k (getD l k (pos 0) +ℤ v) (small-more (b + c) s (omega arith)) (simp ints (omega (arith, s .each k)))
-
-pub small-gains : {b c : ℕ} {l : List ℤ} (k j : ℕ) (v : ℤ) → Small b l → ∣ v ∣ ≤ c → Small (b + c) (set (set l k (getD l k (pos 0) +ℤ v)) j (getD l j (pos 0) +ℤ v))
-small-gains {b} {c} {l} k j v s h =
-    small-set j (getD l j (pos 0) +ℤ v) (small-gain k v s h) (simp ints (omega (arith, s .each j)))
 
 pub small-clear : {b : ℕ} {e : List ℤ} (i n : ℕ) → Small b e → Small b (clear i n e)
 unfolding clear

@@ -5,12 +5,14 @@ use mathlib.Core.List.{List, [], _∷_, _++_, append-assoc}
 use Prim.Native.Nat.{ℕ, zero, suc, _+_, _-_, _^_, _<_, _≤_}
 use native.Mathlib.Omega.{arith}
 use native.Mathlib.Numerals.{add-one}
+use native.Mathlib.Nat.{add-zero, zero-add}
 use lib.ListN.{length, getD, set, take, drop, replicate}
 use lib.IntN.{ℤ, pos}
 use Rattle.whole.specs.Parts.{∣_∣}
 use Rattle.whole.specs.Words.{bit, bitsFrom, tab}
 use Rattle.whole.specs.Masks.{bit-none}
 use Rattle.whole.specs.Lists.{fill-step, tab-same, replicate-at}
+use Rattle.whole.specs.Counts.{shift}
 use Rattle.rules.specs.declared.Step.{Step}
 use Rattle.rules.specs.Graph.{Graph, dropTo}
 use Rattle.rules.specs.Eliminate as rule
@@ -18,7 +20,7 @@ use Rattle.rules.specs.Record.{hold}
 use Rattle.rules.specs.Size.{Within}
 use Rattle.rules.specs.SmallBlock.{boundary, inner, cheapest, bestMask, blockTable, dropAll, blockSteps}
 use Rattle.accepted.specs.Small.{small-set}
-use Rattle.graph.specs.Small.{dropped-constant, dropped-linear, dropped-edges}
+use Rattle.graph.specs.Small.{dropped-within}
 use Rattle.block_minima.specs.Weights.{weights, weights-inner, Minimum}
 use Rattle.block_elimination.specs.Block.{Lowest, pairOf, memberStep}
 
@@ -26,13 +28,6 @@ use Rattle.block_elimination.specs.Block.{Lowest, pairOf, memberStep}
 pub held-step : (i c d f s t : ℕ) (near : List ℕ) → d ≡ length near → f ≡ getD near 0 0 → s ≡ getD near 1 0 → t ≡ getD near 2 0
     → _≡_ {A = Step} (record { decision = i; degree = d; first = f; second = s; third = t; choices = c }) (hold (rule.step i near c))
 held-step i c d f s t near p q r u = rw (p, q, r, u)
-
--- the boundary, from its first two
-pub pair-whole : (xs : List ℕ) → length xs ≤ 2 → pairOf (getD xs 0 0) (getD xs 1 0) (length xs) ≡ xs
-pair-whole [] h = refl
-pair-whole (x ∷ []) h = refl
-pair-whole (x ∷ y ∷ []) h = refl
-pair-whole (x ∷ y ∷ z ∷ xs) h = absurd (omega arith)
 
 pub pair-length : (a b w : ℕ) → w ≤ 2 → length (pairOf a b w) ≡ w
 pair-length a b zero h = refl
@@ -58,14 +53,6 @@ choices-are best masks (suc zero) k h e = rw (e, bit-none k) (omega arith)
 choices-are best masks (suc (suc zero)) k h e = rw e
 choices-are best masks (suc (suc (suc w))) k h e = absurd (omega arith)
 
--- ---- absorbing looks at the masks of its neighbours only
-pub absorb-same : (t u : ℕ → ℤ) (ns : List ℕ) (g : Graph) → length ns ≤ 2 → ((m : ℕ) → m < 2 ^ length ns → t m ≡ u m) → rule.absorb t ns g ≡ rule.absorb u ns g
-unfolding rule.absorb
-absorb-same t u [] g l h = rw (h 0 (omega arith))
-absorb-same t u (j ∷ []) g l h = rw (h 0 (omega arith), h 1 (omega arith))
-absorb-same t u (j ∷ k ∷ []) g l h = rw (h 0 (omega arith), h 1 (omega arith), h 2 (omega arith), h 3 (omega arith))
-absorb-same t u (j ∷ k ∷ i ∷ ns) g l h = absurd (omega arith)
-
 -- ---- a list by its places
 tab-front : {A : Type 0} (f : ℕ → A) (n : ℕ) → tab f (suc n) ≡ f 0 ∷ tab (λ k. f (suc k)) n
 unfolding tab
@@ -80,12 +67,11 @@ module _ (g : Graph) (b : List ℕ) where
   unfolding blockSteps tab
   steps-from j [] = refl
   steps-from j (i ∷ is) =
-      let here : j ≡ j + 0 = omega arith in
-      ap₂ (λ (k : ℕ) (t : List rule.Step). stepAt k i ∷ t) here (steps-from (suc j) is ∙ tab-same (λ k. stepAt (suc j + k) (getD is k 0)) (λ k. stepAt (j + suc k) (getD is k 0)) (length is) (λ k l. up k))
+      ap₂ (λ (k : ℕ) (t : List rule.Step). stepAt k i ∷ t) (sym (add-zero j)) (steps-from (suc j) is ∙ tab-same (λ k. stepAt (suc j + k) (getD is k 0)) (λ k. stepAt (j + suc k) (getD is k 0)) (length is) (λ k l. up k))
       ∙ sym (tab-front (λ k. stepAt (j + k) (getD (i ∷ is) k 0)) (length is))
     where
       up : (k : ℕ) → stepAt (suc j + k) (getD is k 0) ≡ stepAt (j + suc k) (getD is k 0)
-      up k = let e : suc j + k ≡ j + suc k = omega arith in ap (λ (m : ℕ). stepAt m (getD is k 0)) e
+      up k = ap (λ (m : ℕ). stepAt m (getD is k 0)) (shift j k)
 
   -- the steps of the rules are those that the code makes
   pub steps-are : (near order masks : List ℕ) (w : ℕ) → near ≡ boundary g b → length (boundary g b) ≡ w → w ≤ 2 → masks ≡ tab (bestMask g b) (2 ^ w) ++ drop (2 ^ w) (replicate 4 0)
@@ -95,9 +81,8 @@ module _ (g : Graph) (b : List ℕ) where
     where
       same : (k : ℕ) → k < length b → memberStep near masks k (getD order k 0) ≡ stepAt (0 + k) (getD b k 0)
       same k l =
-          let plain : k ≡ 0 + k = omega arith in
           ap₂ (λ (i : ℕ) (c : ℕ). rule.step i near c) (eo k l) (choices-are (bestMask g b) masks w k h em ∙ ap (λ (v : ℕ). bitsFrom (λ f. bit (bestMask g b f) k) 0 (2 ^ v)) (sym ew))
-          ∙ ap₂ (λ (ns : List ℕ) (m : ℕ). rule.step (getD b k 0) ns (bitsFrom (λ f. bit (bestMask g b f) m) 0 (2 ^ length (boundary g b)))) en plain
+          ∙ ap₂ (λ (ns : List ℕ) (m : ℕ). rule.step (getD b k 0) ns (bitsFrom (λ f. bit (bestMask g b f) m) 0 (2 ^ length (boundary g b)))) en (sym (zero-add k))
 
   -- the minima that the code finds are those of the rules
   pub lowest-are : (near : List ℕ) (count size : ℕ) (masks : List ℕ) (table : List ℤ) → near ≡ boundary g b → length b ≡ count
@@ -118,17 +103,10 @@ module _ (g : Graph) (b : List ℕ) where
       best f = ap₂ (λ (c : ℕ → ℤ) (k : ℕ). cheapest c (2 ^ k - 1)) (costs f) (sym ec)
 
 -- ---- what is dropped stays within the size rule
-within-drop : (s i : ℕ) (g : Graph) → Within g → Within (dropTo s i g)
-within-drop s i g w = record {
-  constant = dropped-constant s i g (dropTo s i g) refl w;
-  linear = dropped-linear s i g (dropTo s i g) refl w .each;
-  edges = dropped-edges s i g (dropTo s i g) refl w .each;
-}
-
 pub within-drop-all : (b : List ℕ) (g : Graph) → Within g → Within (dropAll b g)
 unfolding dropAll
 within-drop-all [] g w = w
-within-drop-all (i ∷ is) g w = within-drop-all is (dropTo 3 i g) (within-drop 3 i g w)
+within-drop-all (i ∷ is) g w = within-drop-all is (dropTo 3 i g) (dropped-within 3 i g (dropTo 3 i g) refl w)
 
 -- ---- dropping in turn
 module _ (i : ℕ) (is js : List ℕ) (g h : Graph) where
@@ -139,10 +117,6 @@ module _ (i : ℕ) (is js : List ℕ) (g h : Graph) where
 pub drops-none : (is : List ℕ) (g : Graph) → is ≡ [] → dropAll is g ≡ g
 unfolding dropAll
 drops-none is g e = rw e
-
-pub dropped-n : (s i : ℕ) (g h : Graph) → h ≡ dropTo s i g → h .n ≡ g .n
-unfolding dropTo
-dropped-n s i g h e = ap (λ (x : Graph). x .n) e
 
 -- ---- one more of a list
 pub listed-more : {A : Type 0} (xs : List A) (f : ℕ → A) (k : ℕ) → (xs ++ tab f k) ++ f k ∷ [] ≡ xs ++ tab f (k + 1)

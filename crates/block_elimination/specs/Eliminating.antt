@@ -8,10 +8,10 @@ use native.Mathlib.Omega.{arith}
 use lib.ListN.{length, getD, take, drop, replicate, length-take, List·getD-append}
 use lib.Seq.{getD-take, length-take-le}
 use lib.IntN.{ℤ, pos}
-use Rattle.whole.specs.Parts.{∣_∣}
 use Rattle.whole.specs.Words.{tab}
 use Rattle.whole.specs.Lists.{length-tab, tab-at}
-use Rattle.whole.specs.Members.{apart-at, low-at}
+use Rattle.whole.specs.Members.{apart-at, apart-wider, low-at}
+use Rattle.whole.specs.Pigeon.{Apart}
 use Rattle.rules.specs.Graph.{Graph}
 use Rattle.rules.specs.Eliminate as rule
 use Rattle.rules.specs.Size.{Within}
@@ -20,12 +20,13 @@ use Rattle.meaning.specs.CostLaws.{Shaped}
 use Rattle.meaning.specs.BlockCost.{boundary-apart}
 use Rattle.meaning.specs.Found.{found-block}
 use Rattle.accepted.specs.Small.{Small, small-more}
+use Rattle.low_degree.specs.AbsorbLaws.{pair-whole, absorb-same}
 use Rattle.small_block.specs.Held.{blockBy}
 use Rattle.small_block.specs.Seeking.{a-block}
 use Rattle.small_block.specs.Tables.{Boundary, shape-boundary}
 use Rattle.block_minima.specs.Weights.{weights, Listed}
 use Rattle.block_elimination.specs.Block.{Lowest, Beside, pairOf, memberStep, Eliminable}
-use Rattle.block_elimination.specs.BlockLaws.{pair-whole, absorb-same, steps-are, lowest-are, within-drop-all}
+use Rattle.block_elimination.specs.BlockLaws.{steps-are, lowest-are, within-drop-all}
 
 module _ {g : Graph} {order : List ℕ} {count : ℕ} (w : Eliminable g order count) where
   pub members-few : count ≤ 8
@@ -100,17 +101,13 @@ module _ {g : Graph} {order : List ℕ} {count : ℕ} {out : List ℕ} {width fi
 
   -- what absorbing is owed
   pub table-fits : (h : Graph) → h ≡ dropAll (take count order) g
-      → (first < 64) × (second < 64) × (width ≤ 2) × (∣ h .constant ∣ ≤ 2 ^ 50) × Small (2 ^ 50) (h .linear) × Small (2 ^ 50) (h .edges) × Small (2 ^ 50) table
-  table-fits h e =
-      let v : Within h = subst (λ (x : Graph). Within x) (sym e) (within-drop-all b g (w .block .within)) in (
-        out-beside .one,
-        out-beside .two,
-        out-beside .few,
-        omega (arith, v .constant),
-        record { each = λ k. omega (arith, v .linear k) },
-        record { each = λ k. omega (arith, v .edges k) },
-        small-more (2 ^ 50) (w .lowest .bounded) (omega arith),
-      )
+      → Apart 64 (pairOf first second width) × (width ≤ 2) × Within h × Small (2 ^ 50) table
+  table-fits h e = (
+    subst (Apart 64) (sym near-is) (apart-wider (w .block .few) (boundary-apart g b)),
+    out-beside .few,
+    subst (λ (x : Graph). Within x) (sym e) (within-drop-all b g (w .block .within)),
+    small-more (2 ^ 50) (w .lowest .bounded) (omega arith),
+  )
 
   entry-is : (k : ℕ) → k < 2 ^ width → getD table k (pos 0) ≡ blockTable g (take count order) k
   entry-is k l =

@@ -1,18 +1,21 @@
 -- The entries of the rules' table, and what they make of the graph.
-use mathlib.Core.Path.{_≡_, refl, ap, _∙_}
+use mathlib.Core.Path.{_≡_, refl, sym, ap, _∙_, subst}
 use mathlib.Core.List.{List}
-use Prim.Native.Nat.{ℕ, _<_}
+use Prim.Native.Nat.{ℕ, _<_, _≤_}
 use native.Mathlib.Omega.{arith}
 use lib.ListN.{getD, set}
 use lib.IntN.{ℤ, pos, _+ℤ_}
 use Rattle.whole.specs.Words.{tab}
 use Rattle.whole.specs.Lists.{tab-at}
+use Rattle.whole.specs.Members.{apart-wider}
 use Rattle.rules.specs.Graph.{Graph, neighbours, addConstant, addLinear, dropTo}
 use Rattle.rules.specs.Eliminate.{tee}
 use Rattle.rules.specs.DegreeThree.{moebius, pairs, addPairs, absorb3, eliminate3}
+use Rattle.meaning.specs.Growth.{neighbours-apart}
+use Rattle.meaning.specs.DegreeThreeLaws.{Triple, triple-of}
 use Rattle.graph.specs.Held.{held, withConstant, DoesEdges}
 use Rattle.graph.specs.Near.{nearOf}
-use Rattle.graph.specs.NearLaws.{near-list}
+use Rattle.graph.specs.NearLaws.{near-count, near-list, near-whole}
 use Rattle.graph.specs.declared.Frame.{Frame}
 use Rattle.graph.specs.declared.Near.{Near}
 
@@ -35,6 +38,10 @@ absorb-same e u near js g h n =
     rw (h 0 (omega arith), h 1 (omega arith), h 2 (omega arith), h 3 (omega arith), h 4 (omega arith), h 5 (omega arith), h 6 (omega arith), n 0 (omega arith), n 1 (omega arith), n 2 (omega arith))
 
 module _ (g : Graph) (i : ℕ) (near : Near) (is : near ≡ nearOf g i) where
+  -- the three are decisions, and different
+  pub near-triple : near .count ≡ 3 → g .n ≤ 64 → Triple 64 (near .list)
+  near-triple h few = subst (Triple 64) (sym (near-whole g i near is h)) (triple-of (apart-wider few (neighbours-apart g i)) (sym (near-count g i near is) ∙ h))
+
   pub eliminated : (d r : Graph) (e : List ℤ) → e ≡ tab (moebius (tee g i)) 8 → d ≡ dropTo 3 i g → r ≡ absorb3 (λ m. getD e m (pos 0)) (near .list) d → r ≡ eliminate3 i g
   unfolding eliminate3
   eliminated d r e p q s =

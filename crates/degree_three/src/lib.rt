@@ -4,12 +4,12 @@ ghost use mathlib.Core.Bool.{cond};
 ghost use Prim.Native.Nat.{ℕ, _<_, _≤_, _^_};
 ghost use lib.ListN.{getD};
 ghost use lib.IntN.{pos};
-ghost use Rattle.whole.specs.Parts.{∣_∣};
 ghost use Rattle.whole.specs.Words.{tab};
 ghost use Rattle.rules.specs.Eliminate.{stepOf};
 ghost use Rattle.rules.specs.DegreeThree.{moebius as transformed, cubic, pairs, addPairs, absorb3, eliminate3};
 ghost use Rattle.rules.specs.Record.{hold, noStep};
 ghost use Rattle.rules.specs.Size.{Within};
+ghost use Rattle.meaning.specs.DegreeThreeLaws.{Triple};
 ghost use Rattle.graph.specs.Held.{held, DoesEdges};
 ghost use Rattle.graph.specs.Near.{nearOf};
 ghost use Rattle.graph.specs.Shows.{Shows};
@@ -82,7 +82,7 @@ pub fn add_pairs(
     near: graph::Near,
     entries: [i64; 8],
 )
-    requires { ⌜ ((k : ℕ) → getD (near .list) k 0 < 64) × Small (2 ^ 50) (now edges) × Small (2 ^ 54) entries ⌝ }
+    requires { ⌜ Triple 64 (near .list) × Small 2199023255552 (now edges) × Small (2 ^ 54) entries ⌝ }
     ensures { λ _. ⌜ DoesEdges (addPairs (λ m. getD entries m (pos 0)) (near .list) pairs) (now (edges .entry)) (now (edges .exit))
         × ((n : ℕ) → ((k : ℕ) → k < 3 → getD (near .list) k 0 < n) → Shows n (now (edges .entry)) (now (masks .entry)) → Shows n (now (edges .exit)) (now (masks .exit))) ⌝ }
 {
@@ -110,7 +110,7 @@ pub fn absorb_three(
     near: graph::Near,
     entries: [i64; 8],
 ) -> graph::Frame
-    requires { ⌜ ((k : ℕ) → getD (near .list) k 0 < 64) × (∣ f .constant ∣ ≤ 2 ^ 50) × Small (2 ^ 50) (now lin) × Small (2 ^ 50) (now edges) × Small (2 ^ 54) entries ⌝ }
+    requires { ⌜ Triple 64 (near .list) × Within (held f (now lin) (now edges)) × Small (2 ^ 54) entries ⌝ }
     ensures { λ r. ⌜ (held r (now (lin .exit)) (now (edges .exit)) ≡ absorb3 (λ m. getD entries m (pos 0)) (near .list) (held f (now (lin .entry)) (now (edges .entry))))
         × ((n : ℕ) → ((k : ℕ) → k < 3 → getD (near .list) k 0 < n) → Shows n (now (edges .entry)) (now (masks .entry)) → Shows n (now (edges .exit)) (now (masks .exit))) ⌝ }
 {

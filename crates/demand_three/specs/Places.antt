@@ -5,8 +5,9 @@ use mathlib.Core.Bool.{Bool, true, false, cond}
 use mathlib.Core.List.{List, [], _∷_, _++_, append-nil}
 use Prim.Native.Nat.{ℕ, zero, suc, _+_, _-_, _<_, _≤_}
 use native.Mathlib.Omega.{arith}
-use native.Mathlib.Nat.{not-suc-le-zero}
+use native.Mathlib.Nat.{not-suc-le-zero, add-zero, zero-add, suc-add}
 use native.Mathlib.Decide.{decLt}
+use native.Mathlib.Numerals.{suc-eq-add-one}
 use lib.ListN.{length, getD, length-append, List·getD-append}
 use lib.Seq.{getD-at}
 use lib.IntN.{ℤ, pos, _+ℤ_, +ℤ-idr}
@@ -14,16 +15,15 @@ use Rattle.whole.specs.Words.{from, upto, those}
 use Rattle.whole.specs.Those.{those-append}
 use Rattle.whole.specs.Members.{apart-at, apart-those, apart-upto}
 use Rattle.whole.specs.Sum.{Σ<, Σ-cong}
+use Rattle.whole.specs.Counts.{shift}
 use Rattle.meaning.specs.Cost.{when, when-zero, row-zero, rowCost, costOf}
 
 -- ---- those that pass
 from-append : (k a b : ℕ) → from k (a + b) ≡ from k a ++ from (k + a) b
 unfolding from
-from-append k zero b = let e : zero + b ≡ b = omega arith in let f : k + zero ≡ k = omega arith in ap₂ from (sym f) e
+from-append k zero b = ap₂ from (sym (add-zero k)) (zero-add b)
 from-append k (suc a) b =
-    let e : suc a + b ≡ suc (a + b) = omega arith in
-    let f : suc k + a ≡ k + suc a = omega arith in
-    ap (from k) e ∙ ap (λ (l : List ℕ). k ∷ l) (from-append (suc k) a b ∙ ap (λ (m : ℕ). from (suc k) a ++ from m b) f)
+    ap (from k) (suc-add a b) ∙ ap (λ (l : List ℕ). k ∷ l) (from-append (suc k) a b ∙ ap (λ (m : ℕ). from (suc k) a ++ from m b) (shift k a))
 
 module _ (p : ℕ → Bool) where
   -- how many pass below m
@@ -33,21 +33,18 @@ module _ (p : ℕ → Bool) where
   one-more : (m : ℕ) → those p (upto (suc m)) ≡ those p (upto m) ++ cond (p m) (m ∷ []) []
   unfolding those from
   one-more m =
-      let e : suc m ≡ m + 1 = omega arith in
-      let f : 0 + m ≡ m = omega arith in
-      ap (λ (k : ℕ). those p (from 0 k)) e ∙ ap (those p) (from-append 0 m 1) ∙ those-append p (upto m) (from (0 + m) 1)
-      ∙ ap (λ (k : ℕ). those p (upto m) ++ cond (p k) (k ∷ []) []) f
+      ap (λ (k : ℕ). those p (from 0 k)) (suc-eq-add-one m) ∙ ap (those p) (from-append 0 m 1) ∙ those-append p (upto m) (from (0 + m) 1)
+      ∙ ap (λ (k : ℕ). those p (upto m) ++ cond (p k) (k ∷ []) []) (zero-add m)
 
   -- one that passes stands at the place that the count below it says
   pub place-of : (n m : ℕ) → m < n → p m ≡ true → getD (those p (upto n)) (count m) 0 ≡ m
   unfolding those from
   place-of n m l h =
       let e : n ≡ m + suc (n - m - 1) = omega arith in
-      let f : 0 + m ≡ m = omega arith in
       ap (λ (k : ℕ). getD (those p (upto k)) (count m) 0) e
       ∙ ap (λ (xs : List ℕ). getD (those p xs) (count m) 0) (from-append 0 m (suc (n - m - 1)))
       ∙ ap (λ (xs : List ℕ). getD xs (count m) 0) (those-append p (upto m) (from (0 + m) (suc (n - m - 1))))
-      ∙ ap (λ (k : ℕ). getD (those p (upto m) ++ cond (p k) (k ∷ those p (from (suc k) (n - m - 1))) (those p (from (suc k) (n - m - 1)))) (count m) 0) f
+      ∙ ap (λ (k : ℕ). getD (those p (upto m) ++ cond (p k) (k ∷ those p (from (suc k) (n - m - 1))) (those p (from (suc k) (n - m - 1)))) (count m) 0) (zero-add m)
       ∙ ap (λ (b : Bool). getD (those p (upto m) ++ cond b (m ∷ those p (from (suc m) (n - m - 1))) (those p (from (suc m) (n - m - 1)))) (count m) 0) h
       ∙ getD-at (those p (upto m)) m (those p (from (suc m) (n - m - 1))) 0 (count m) refl
 

@@ -9,7 +9,6 @@ use lib.Dec.{eqb}
 use lib.Bits.{bitAnd}
 use lib.Count.{trailingZeros}
 use lib.ListN.{getD, set, replicate}
-use lib.Seq.{getD-set-other}
 use lib.IntN.{ℤ, pos, negℤ, _+ℤ_, _-ℤ_}
 use mir.Syntax.{w64}
 use mir.Val.{SFits, toZ, ofZ}
@@ -18,11 +17,13 @@ use Rattle.whole.specs.Parts.{∣_∣}
 use Rattle.whole.specs.Ints.{ints, rd}
 use Rattle.whole.specs.Words.{mem, tab}
 use Rattle.whole.specs.Lists.{tab-at}
+use Rattle.whole.specs.Cells.{cells-other}
 use Rattle.whole.specs.Masks.{these, these-below, these-apart, first-in}
 use Rattle.whole.specs.Members.{in-tail, apart-new}
 use Rattle.whole.specs.Pigeon.{Apart}
 use Rattle.whole.specs.Fits.{fit, read}
-use Rattle.size_rule.specs.Sizes.{neg-size, gain-size}
+use Rattle.size_rule.specs.Sizes.{neg-size}
+use Rattle.low_degree.proofs.Laws.{gain-fits}
 use Rattle.rules.specs.Graph.{Graph, lin, edge, neighbours, addConstant, addLinear, addEdge, dropTo}
 use Rattle.rules.specs.Eliminate.{step}
 use Rattle.rules.specs.Record.{hold}
@@ -58,10 +59,6 @@ module _ (old : Graph) (i j : ℕ) where
   unfolding move
   move-none js g e = ap (λ (ks : List ℕ). move old i j ks g) e
 
--- a place that has gained nothing yet
-pub gain-fits-once : {before : List ℤ} (now : List ℤ) (k : ℕ) (v : ℤ) → Small (2 ^ 50) before → getD now k (pos 0) ≡ getD before k (pos 0) → ∣ v ∣ ≤ 2199023255552 → SFits w64 (getD now k (pos 0) +ℤ v)
-gain-fits-once now k v s e h = fit (getD now k (pos 0) +ℤ v) (omega (arith, gain-size now k v s e h))
-
 -- ---- what both keep: those left are of the mask, none of their edges to j has changed, and the masks show the edges
 abbrev pub Alike : ℕ → List ℤ → List ℤ → ℕ → Type 0
 Alike j e₀ e t = (getD e (64 * j + t) (pos 0) ≡ getD e₀ (64 * j + t) (pos 0)) × (getD e (64 * t + j) (pos 0) ≡ getD e₀ (64 * t + j) (pos 0))
@@ -69,13 +66,13 @@ Alike j e₀ e t = (getD e (64 * j + t) (pos 0) ≡ getD e₀ (64 * j + t) (pos 
 pub record Keeps (row : List ℤ) (m j rest : ℕ) (e₀ : List ℤ) (ms₀ : List ℕ) (e : List ℤ) (ms : List ℕ) : Type 0 where
   pub below : j < 64
   pub weights : Small 2199023255552 row
-  pub small : Small (2 ^ 50) e₀
+  pub small : Small 2199023255552 e₀
   pub fits : rest < 2 ^ 64
   pub among : (t : ℕ) → mem t (these rest) ≡ true → mem t (these m) ≡ true
   pub alike : (t : ℕ) → mem t (these rest) ≡ true → Alike j e₀ e t
   pub shown : Shown-on m j e₀ ms₀ e ms
 
-pub keeps-begin : {row : List ℤ} {j : ℕ} (m : ℕ) (e : List ℤ) (ms : List ℕ) → j < 64 → Small 2199023255552 row → m < 2 ^ 64 → Small (2 ^ 50) e → Keeps row m j m e ms e ms
+pub keeps-begin : {row : List ℤ} {j : ℕ} (m : ℕ) (e : List ℤ) (ms : List ℕ) → j < 64 → Small 2199023255552 row → m < 2 ^ 64 → Small 2199023255552 e → Keeps row m j m e ms e ms
 keeps-begin m e ms b w h s = record {
   below = b;
   weights = w;
@@ -122,7 +119,7 @@ module _ {row e₀ e : List ℤ} {m j rest : ℕ} {ms₀ ms : List ℕ} (k : Kee
   pub edge-fits : (v : ℤ) → ∣ v ∣ ≤ 2199023255552 → (j < 64) × (at < 64) × SFits w64 (getD e (64 * j + at) (pos 0) +ℤ v) × SFits w64 (getD e (64 * at + j) (pos 0) +ℤ v)
   edge-fits v h =
       let same = k .alike at at-in in
-      (k .below, at-low, gain-fits-once e (64 * j + at) v (k .small) (same .0) h, gain-fits-once e (64 * at + j) v (k .small) (same .1) h)
+      (k .below, at-low, gain-fits e₀ e (64 * j + at) v (k .small .each (64 * j + at)) (same .0) h (omega arith), gain-fits e₀ e (64 * at + j) v (k .small .each (64 * at + j)) (same .1) h (omega arith))
 
   keeps : (e′ : List ℤ) (ms′ : List ℕ) → ((t : ℕ) → t < 64 → t ≢ at → Alike j e e′ t) → ((n : ℕ) → j < n → at < n → Shows n e ms → Shows n e′ ms′) → Keeps row m j left e₀ ms₀ e′ ms′
   keeps e′ ms′ s f = record {
@@ -144,10 +141,10 @@ module _ {row e₀ e : List ℤ} {m j rest : ℕ} {ms₀ ms : List ℕ} (k : Kee
   pub keeps-gain : (v : ℤ) (e′ : List ℤ) (ms′ : List ℕ)
       → e′ ≡ set (set e (64 * j + at) (getD e (64 * j + at) (pos 0) +ℤ v)) (64 * at + j) (getD e (64 * at + j) (pos 0) +ℤ v)
       → ((n : ℕ) → j < n → at < n → Shows n e ms → Shows n e′ ms′) → Keeps row m j left e₀ ms₀ e′ ms′
-  keeps-gain v e′ ms′ q f = keeps e′ ms′ (λ t l n. (same (64 * j + t) (λ z. n (omega (arith, k .below, at-low))) (λ z. n (omega (arith, k .below, at-low))), same (64 * t + j) (λ z. n (omega (arith, k .below, at-low))) (λ z. n (omega (arith, k .below, at-low))))) f
+  keeps-gain v e′ ms′ q f = keeps e′ ms′ (λ t l n. (same j t l (λ x. n) (λ x y. n (y ∙ x)), same t j (k .below) (λ x y. n (x ∙ y)) (λ x. absurd (n x)))) f
     where
-      same : (p : ℕ) → p ≢ 64 * j + at → p ≢ 64 * at + j → getD e′ p (pos 0) ≡ getD e p (pos 0)
-      same p x y = rw q (getD-set-other (set e (64 * j + at) (getD e (64 * j + at) (pos 0) +ℤ v)) (64 * at + j) p _ (pos 0) y ∙ getD-set-other e (64 * j + at) p _ (pos 0) x)
+      same : (p q : ℕ) → q < 64 → (p ≡ j → q ≢ at) → (p ≡ at → q ≢ j) → getD e′ (64 * p + q) (pos 0) ≡ getD e (64 * p + q) (pos 0)
+      same p r l x y = rw q (cells-other e (pos 0) j at p r _ _ (k .below) at-low l x y)
 
   -- of a walk by which each but j gives, by `give`, the edge that i had to it
   module _ {old : Graph} {i : ℕ} (gone : Gone row m old i) (walk : List ℕ → Graph → Graph) (give : ℕ → ℤ → Graph → Graph)

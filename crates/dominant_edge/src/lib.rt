@@ -2,7 +2,9 @@
 ghost use mathlib.Core.Path.{_≡_};
 ghost use mathlib.Core.Bool.{_&&_, _||_};
 ghost use mathlib.Core.List.{[], _∷_};
-ghost use Prim.Native.Nat.{_<_, _≤_, _^_};
+ghost use mathlib.Core.Logic.{_≢_};
+ghost use Prim.Native.Nat.{ℕ, _<_, _≤_, _^_};
+ghost use lib.ListN.{getD};
 ghost use lib.IntN.{pos};
 ghost use lib.Signed.{leZ};
 ghost use Rattle.whole.specs.Parts.{∣_∣};
@@ -122,7 +124,7 @@ pub fn turn_edges(
     m: u64,
     j: usize,
 )
-    requires { ⌜ (j < 64) × Small 2199023255552 (now row) × Small (2 ^ 50) (now lin) × Small (2 ^ 50) (now edges) ⌝ }
+    requires { ⌜ (j < 64) × Small 2199023255552 (now row) × ((t : ℕ) → t ≢ j → ∣ getD (now lin) t (pos 0) ∣ ≤ 1099511627776) × Small 2199023255552 (now edges) ⌝ }
     ensures { λ _. ⌜ Turns (now (row .entry)) m j (now (lin .entry)) (now (edges .entry)) (now (lin .exit)) (now (edges .exit))
         × Shown-on m j (now (edges .entry)) (now (masks .entry)) (now (edges .exit)) (now (masks .exit)) ⌝ }
 {
@@ -140,7 +142,7 @@ pub fn turn_edges(
 
 // x of the decision becomes x of j: each other edge of its row goes to the edge of its neighbour and j.
 pub fn move_edges(edges: &mut [i64; 4096], masks: &mut [u64; 64], row: &[i64; 64], m: u64, j: usize)
-    requires { ⌜ (j < 64) × Small 2199023255552 (now row) × Small (2 ^ 50) (now edges) ⌝ }
+    requires { ⌜ (j < 64) × Small 2199023255552 (now row) × Small 2199023255552 (now edges) ⌝ }
     ensures { λ _. ⌜ Moves (now (row .entry)) m j (now (edges .entry)) (now (edges .exit))
         × Shown-on m j (now (edges .entry)) (now (masks .entry)) (now (edges .exit)) (now (masks .exit)) ⌝ }
 {

@@ -12,12 +12,12 @@ use Rattle.rules.specs.Fixing.{spread, fix}
 use Rattle.rules.specs.Objective.{weightOf}
 use Rattle.accepted.specs.Mass.{mass, weight-at, weight-set, weight-append, weight-zeros, weight-clear, abs-add}
 use Rattle.graph.specs.Held.{Spreads}
+use Rattle.graph.specs.HeldLaws.{dropped-n}
 
 -- a decision is dropped
 module _ (s i : ℕ) (g d : Graph) (h : d ≡ dropTo s i g) (hi : i < 64) (hn : g .n ≤ 64) where
   pub drop-n : d .n ≡ g .n
-  unfolding dropTo
-  drop-n = ap (λ (x : Graph). x .n) h
+  drop-n = dropped-n s i g d h
 
   pub drop-constant : d .constant ≡ g .constant
   unfolding dropTo

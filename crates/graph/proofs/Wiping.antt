@@ -1,6 +1,6 @@
 -- A decision's edges cleared one by one, as its mask shows them.
 use mathlib.Core.Path.{_≡_, refl, sym, ap, ap₂, _∙_, subst}
-use mathlib.Core.Bool.{Bool, true, false, cond, not, _||_}
+use mathlib.Core.Bool.{Bool, true, false, cond, _||_}
 use mathlib.Core.List.{List}
 use mathlib.Core.Logic.{_≢_}
 use Prim.Native.Nat.{ℕ, zero, suc, _+_, _*_, _-_, _^_, _<_, _≤_}
@@ -12,13 +12,14 @@ use lib.Bits.{bitAnd}
 use lib.Count.{trailingZeros}
 use lib.ListN.{length, getD, set, length-set}
 use lib.Seq.{getD-set-same, getD-set-other, set-getD, set-set, set-comm}
-use lib.IntN.{ℤ, pos, negsuc}
-use borrow.Author.Tests.{eqb-true, ne-eqb}
-use Rattle.whole.specs.Words.{bit, mem}
-use Rattle.whole.specs.Tests.{cases, clash}
+use lib.IntN.{ℤ, pos}
+use borrow.Author.Tests.{eqb-true}
+use Rattle.whole.specs.Words.{bit, mem, isZeroZ}
+use Rattle.whole.specs.Tests.{cases, clash, on-not}
 use Rattle.whole.specs.Members.{apart-new}
 use Rattle.whole.specs.Pigeon.{Apart}
 use Rattle.whole.specs.Masks.{these, these-apart, mem-these, first-in, bit-none, turn}
+use Rattle.whole.specs.Cmp.{zero-of}
 use Rattle.rules.specs.Graph.{clear}
 use Rattle.graph.specs.Shows.{Shows}
 use Rattle.graph.specs.ShowsLaws.{cell, isEdge, Marked, joined}
@@ -62,9 +63,7 @@ clear-none i e (suc c) h =
     ∙ ap (set e (64 * c + i)) (sym (z .1)) ∙ set-getD e (64 * c + i) (pos 0))
 
 no-edge : (z : ℤ) → isEdge z ≡ false → z ≡ pos 0
-no-edge (pos zero) h = refl
-no-edge (pos (suc n)) h = clash (ap not (ne-eqb (suc n) 0 (λ q. omega arith))) h
-no-edge (negsuc n) h = clash refl h
+no-edge z h = zero-of z (on-not (isZeroZ z) h)
 
 -- ---- the lowest of a mask's decisions is taken off it
 module _ (rest : ℕ) (d : rest ≢ 0) (low : rest < 2 ^ 64) where

@@ -7,10 +7,10 @@ use Prim.Native.Nat.{ℕ, zero, suc, _+_, _*_, _<_, _≤_}
 use native.Mathlib.Omega.{arith}
 use lib.ListN.{length, getD, set, length-append, length-map}
 use lib.IntN.{ℤ, pos}
-use Rattle.whole.specs.Words.{isZeroZ, upto, mem}
-use Rattle.whole.specs.Members.{in-at, in-those, upto-in, apart-those, apart-upto, low-at}
-use Rattle.whole.specs.Those.{those-most}
-use Rattle.rules.specs.Graph.{Graph, edge, row, neighbours}
+use Rattle.whole.specs.Words.{isZeroZ, mem}
+use Rattle.whole.specs.Members.{in-at, low-at}
+use Rattle.rules.specs.Graph.{Graph, row, neighbours}
+use Rattle.meaning.specs.Growth.{neighbours-apart, in-nbrs}
 use Rattle.graph.specs.Near.{three, nearAmong, nearOf}
 use Rattle.graph.specs.declared.Near.{Near}
 
@@ -21,6 +21,13 @@ module _ {A : Type 0} (z : A) where
   three-at xs (suc zero) h = refl
   three-at xs (suc (suc zero)) h = refl
   three-at xs (suc (suc (suc k))) h = absurd (omega arith)
+
+  three-whole : (xs : List A) → length xs ≡ 3 → three xs z ≡ xs
+  three-whole [] h = absurd (omega arith)
+  three-whole (a ∷ []) h = absurd (omega arith)
+  three-whole (a ∷ b ∷ []) h = absurd (omega arith)
+  three-whole (a ∷ b ∷ c ∷ []) h = refl
+  three-whole (a ∷ b ∷ c ∷ d ∷ xs) h = absurd (omega arith)
 
   three-more : (xs : List A) (v : A) → length xs < 3 → set (three xs z) (length xs) v ≡ three (xs ++ (v ∷ [])) z
   three-more [] v h = refl
@@ -69,16 +76,10 @@ module _ (e : List ℤ) (i : ℕ) where
 -- ---- what is read from it
 -- each neighbour is a decision, and a place past the last is 0
 pub neighbour-below : (g : Graph) (i k : ℕ) → g .n ≤ 64 → getD (neighbours g i) k 0 < 64
-unfolding neighbours
-neighbour-below g i k h = low-at (g .n) (neighbours g i) k (apart-those (λ j. not (isZeroZ (edge g i j))) (apart-upto (g .n))) h
-
-pub few-neighbours : (g : Graph) (i : ℕ) → length (neighbours g i) ≤ g .n
-unfolding neighbours
-few-neighbours g i = those-most (λ j. not (isZeroZ (edge g i j))) (g .n)
+neighbour-below g i k h = low-at (g .n) (neighbours g i) k (neighbours-apart g i) h
 
 pub mem-inside : (g : Graph) (i t : ℕ) → mem t (neighbours g i) ≡ true → t < g .n
-unfolding neighbours
-mem-inside g i t h = upto-in t (g .n) (in-those (λ j. not (isZeroZ (edge g i j))) t (upto (g .n)) h .0)
+mem-inside g i t h = in-nbrs g i t h .0
 
 pub neighbour-inside : (g : Graph) (i k : ℕ) → k < length (neighbours g i) → getD (neighbours g i) k 0 < g .n
 neighbour-inside g i k h = mem-inside g i (getD (neighbours g i) k 0) (in-at (neighbours g i) k h)
@@ -91,6 +92,11 @@ module _ (g : Graph) (i : ℕ) (near : Near) (is : near ≡ nearOf g i) where
   pub near-list : (k : ℕ) → k < 3 → getD (near .list) k 0 ≡ getD (neighbours g i) k 0
   unfolding nearOf
   near-list k h = ap (λ (x : Near). getD (x .list) k 0) is ∙ three-at 0 (neighbours g i) k h
+
+  -- where there are three, they are the whole list
+  pub near-whole : near .count ≡ 3 → near .list ≡ neighbours g i
+  unfolding nearOf
+  near-whole h = ap (λ (x : Near). x .list) is ∙ three-whole 0 (neighbours g i) (sym near-count ∙ h)
 
   pub near-weights : (k : ℕ) → k < 3 → getD (near .weights) k (pos 0) ≡ getD (row g i (neighbours g i)) k (pos 0)
   unfolding nearOf

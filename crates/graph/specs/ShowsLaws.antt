@@ -2,11 +2,12 @@
 -- Assumes nothing.
 use mathlib.Core.Path.{_≡_, refl, sym, ap, _∙_, subst}
 use mathlib.Core.Bool.{Bool, cond, not, _&&_}
-use mathlib.Core.List.{List, [], _∷_}
+use mathlib.Core.List.{List}
 use mathlib.Core.Logic.{_≢_}
-use Prim.Native.Nat.{ℕ, zero, suc, _+_, _*_, _-_, _^_, _<_, _≤_}
+use Prim.Native.Nat.{ℕ, _+_, _*_, _-_, _^_, _<_, _≤_}
 use native.Mathlib.Omega.{arith}
 use native.Mathlib.Decide.{ℕ-discrete}
+use native.Mathlib.Nat.{add-sub-of-le}
 use lib.Dec.{eqb}
 use lib.ListN.{length, getD, set, length-set, length-replicate}
 use lib.Seq.{getD-set-same, getD-set-other}
@@ -18,6 +19,7 @@ use Rattle.whole.specs.Members.{upto-in}
 use Rattle.whole.specs.Masks.{these, those-ext, bit-none}
 use Rattle.whole.specs.Those.{those-upto}
 use Rattle.whole.specs.Lists.{replicate-at, below-set}
+use Rattle.whole.specs.Cells.{still-set, cell-other, cells-other}
 use Rattle.rules.specs.Graph.{graph, neighbours, noEdges}
 use Rattle.graph.specs.Shows.{Shows, noMasks}
 use Rattle.graph.specs.NearLaws.{there}
@@ -34,9 +36,8 @@ pub shown : (n : ℕ) (e : List ℤ) (m : List ℕ) → Shows n e m → n ≤ 64
     → these (getD m i 0) ≡ neighbours (graph n c l e ss) i
 unfolding these neighbours
 shown n e m s h c l ss i hi =
-    let w : 64 ≡ n + (64 - n) = omega arith in
     those-ext (λ j. bit (getD m i 0) j) (there e i) (upto 64) (λ k t. s .bits i k hi (upto-in k 64 t))
-    ∙ ap (λ (k : ℕ). those (there e i) (upto k)) w
+    ∙ ap (λ (k : ℕ). those (there e i) (upto k)) (sym (add-sub-of-le h))
     ∙ those-upto (there e i) n (64 - n) (λ k t u. ap isEdge (s .none i k hi (omega arith) t))
 
 -- ---- no edge at all
@@ -69,31 +70,18 @@ module _ (e : List ℤ) (k l : ℕ) (x : ℤ) (edges-long : length e ≡ 4096) (
   cell-same : cell (set e (64 * k + l) x) k l ≡ x
   cell-same = getD-set-same e (64 * k + l) x (pos 0) (omega arith)
 
-  cell-other : (p q : ℕ) → q < 64 → (p ≡ k → q ≢ l) → cell (set e (64 * k + l) x) p q ≡ cell e p q
-  cell-other p q hq d = getD-set-other e (64 * k + l) (64 * p + q) x (pos 0) (λ t.
-      let s : p ≡ k = omega arith in
-      let u : q ≡ l = omega arith in
-      d s u)
-
   half : (m : List ℕ) (r : ℕ) → length m ≡ 64 → Bits e m → Marked (getD m k 0) l x r → Bits (set e (64 * k + l) x) (set m k r)
   half m r long b w i j hi hj = go (ℕ-discrete i k) (ℕ-discrete j l)
     where
       go : Dec (i ≡ k) → Dec (j ≡ l) → bit (getD (set m k r) i 0) j ≡ isEdge (cell (set e (64 * k + l) x) i j)
       go (no d) f =
-          ap (λ (z : ℕ). bit z j) (getD-set-other m k i r 0 d) ∙ b i j hi hj ∙ sym (ap isEdge (cell-other i j hj (λ t. absurd (d t))))
+          ap (λ (z : ℕ). bit z j) (getD-set-other m k i r 0 d) ∙ b i j hi hj ∙ sym (ap isEdge (cell-other e (pos 0) k l i j x hl hj (λ t. absurd (d t))))
       go (yes t) (yes u) =
           rw (t, u) (ap (λ (z : ℕ). bit z l) (getD-set-same m k r 0 (omega arith)) ∙ w l hl ∙ ap (λ (c : Bool). cond c (isEdge x) (bit (getD m k 0) l)) (eq-eqb l l refl) ∙ sym (ap isEdge cell-same))
       go (yes t) (no d) =
-          rw t (ap (λ (z : ℕ). bit z j) (getD-set-same m k r 0 (omega arith)) ∙ w j hj ∙ ap (λ (c : Bool). cond c (isEdge x) (bit (getD m k 0) j)) (ne-eqb j l d) ∙ b k j hk hj ∙ sym (ap isEdge (cell-other k j hj (λ s. d))))
+          rw t (ap (λ (z : ℕ). bit z j) (getD-set-same m k r 0 (omega arith)) ∙ w j hj ∙ ap (λ (c : Bool). cond c (isEdge x) (bit (getD m k 0) j)) (ne-eqb j l d) ∙ b k j hk hj ∙ sym (ap isEdge (cell-other e (pos 0) k l k j x hl hj (λ s. d))))
 
 -- ---- both ways round
-keeps : (x : ℤ) (f : List ℤ) (b a : ℕ) → getD f a (pos 0) ≡ x → getD (set f b x) a (pos 0) ≡ x
-keeps x [] b a h = h
-keeps x (y ∷ f) zero zero h = refl
-keeps x (y ∷ f) zero (suc a) h = h
-keeps x (y ∷ f) (suc b) zero h = h
-keeps x (y ∷ f) (suc b) (suc a) h = keeps x f b a h
-
 module _ (n : ℕ) (e : List ℤ) (m : List ℕ) (s : Shows n e m) (k l : ℕ) (kn : k < n) (ln : l < n) (hk : k < 64) (hl : l < 64) (x : ℤ) where
   abbrev turned : List ℤ
   turned = set (set e (64 * k + l) x) (64 * l + k) x
@@ -102,13 +90,13 @@ module _ (n : ℕ) (e : List ℤ) (m : List ℕ) (s : Shows n e m) (k l : ℕ) (
   half-long = length-set e (64 * k + l) x ∙ s .edges-long
 
   there-on : cell turned k l ≡ x
-  there-on = keeps x (set e (64 * k + l) x) (64 * l + k) (64 * k + l) (cell-same e k l x (s .edges-long) hk hl)
+  there-on = still-set (pos 0) x (set e (64 * k + l) x) (64 * l + k) (64 * k + l) (cell-same e k l x (s .edges-long) hk hl)
 
   back-on : cell turned l k ≡ x
   back-on = cell-same (set e (64 * k + l) x) l k x half-long hl hk
 
   off : (p q : ℕ) → q < 64 → (p ≡ k → q ≢ l) → (p ≡ l → q ≢ k) → cell turned p q ≡ cell e p q
-  off p q hq c d = cell-other (set e (64 * k + l) x) l k x half-long hl hk p q hq d ∙ cell-other e k l x (s .edges-long) hk hl p q hq c
+  off p q hq c d = cells-other e (pos 0) k l p q x x hk hl hq c d
 
   turned-both : (p q : ℕ) → p < 64 → q < 64 → cell turned p q ≡ cell turned q p
   turned-both p q hp hq = cases (eqb p k && eqb q l)

@@ -1,6 +1,6 @@
 -- The bounds of a graph's weights: of a decision's edges, and of what is left when a decision is dropped.
 -- Assumes nothing.
-use mathlib.Core.Path.{_≡_, sym, ap, subst}
+use mathlib.Core.Path.{_≡_, sym, subst}
 use mathlib.Core.List.{map}
 use Prim.Native.Nat.{ℕ, zero, suc, _+_, _*_, _≤_}
 use native.Mathlib.Omega.{arith}
@@ -27,14 +27,10 @@ small-near {b} g i s = record { each = three-at-most }
 
 -- the size rule's bounds hold of what is left when a decision is dropped
 module _ (s i : ℕ) (g d : Graph) (h : d ≡ dropTo s i g) (w : Within g) where
-  pub dropped-constant : ∣ d .constant ∣ ≤ 1099511627776
+  pub dropped-within : Within d
   unfolding dropTo
-  dropped-constant = omega (arith, ap (λ (x : Graph). ∣ x .constant ∣) h, w .constant)
-
-  pub dropped-linear : Small 1099511627776 (d .linear)
-  unfolding dropTo
-  dropped-linear = subst (λ (x : Graph). Small 1099511627776 (x .linear)) (sym h) (small-set {l = g .linear} i (pos 0) (record { each = w .linear }) (omega arith))
-
-  pub dropped-edges : Small 2199023255552 (d .edges)
-  unfolding dropTo
-  dropped-edges = subst (λ (x : Graph). Small 2199023255552 (x .edges)) (sym h) (small-clear {e = g .edges} i (g .n) (record { each = w .edges }))
+  dropped-within = subst (λ (x : Graph). Within x) (sym h) (record {
+    constant = w .constant;
+    linear = small-set {l = g .linear} i (pos 0) (record { each = w .linear }) (omega arith) .each;
+    edges = small-clear {e = g .edges} i (g .n) (record { each = w .edges }) .each;
+  })

@@ -1,30 +1,38 @@
 -- What the code's parts make: the table of masks, the choices, and the update of the graph.
-use mathlib.Core.Path.{_≡_, refl, ap, ap₂, _∙_}
+use mathlib.Core.Path.{_≡_, refl, sym, ap, ap₂, _∙_, subst}
 use mathlib.Core.Bool.{Bool, true, false, cond}
 use mathlib.Core.List.{List, [], _∷_}
+use mathlib.Core.Logic.{_≢_}
 use Prim.Native.Nat.{ℕ, zero, suc, _+_, _*_, _-_, _^_, _<_, _≤_}
 use native.Mathlib.Omega.{arith}
 use native.Mathlib.Numerals.{add-one}
+use native.Mathlib.Nat.{sub-eq-zero-of-le}
 use lib.ListN.{length, getD, set, take}
+use lib.Pow.{pow-mono}
 use lib.IntN.{ℤ, pos, _+ℤ_, _-ℤ_}
 use mir.Syntax.{w64}
 use mir.Val.{SFits, toZ, ofZ}
 use Rattle.whole.specs.Parts.{∣_∣}
 use Rattle.whole.specs.Ints.{ints, rd}
-use Rattle.whole.specs.Fits.{fit, read, sum-fits}
+use Rattle.whole.specs.Fits.{fit, read}
 use Rattle.whole.specs.Words.{tab, chosen, bitsFrom, below0}
 use Rattle.whole.specs.Cmp.{lt-ind}
 use Rattle.whole.specs.Lists.{tab-at, cons-same}
+use Rattle.whole.specs.Counts.{one-left}
+use Rattle.whole.specs.Members.{apart-head, apart-tail, apart-new, apart-wider, out-cons}
+use Rattle.whole.specs.Pigeon.{Apart}
 use Rattle.rules.specs.Graph.{Graph, neighbours, addConstant, addLinear, addEdge, dropTo}
 use Rattle.rules.specs.Eliminate.{tee, absorb, eliminate}
+use Rattle.meaning.specs.Growth.{neighbours-apart}
 use Rattle.graph.specs.Near.{three, nearOf}
 use Rattle.graph.specs.NearLaws.{near-count, near-list}
 use Rattle.graph.specs.declared.Near.{Near}
 use Rattle.graph.specs.Held.{held, withConstant}
 use Rattle.accepted.specs.Small.{Small}
-use Rattle.size_rule.specs.Sizes.{delta-size}
+use Rattle.size_rule.specs.Sizes.{delta-size, gain-size}
 use Rattle.graph.specs.declared.Frame.{Frame}
 use Rattle.low_degree.specs.Table.{deltasOf}
+use Rattle.low_degree.specs.AbsorbLaws.{pair-whole, absorb-same}
 
 -- the smaller of a weight and 0, kept and read back
 pub read-below : (z r : ℤ) → SFits w64 z → r ≡ below0 (toZ w64 (ofZ w64 z)) → toZ w64 (ofZ w64 r) ≡ below0 z
@@ -120,15 +128,15 @@ module _ (a : ℤ) (ws : List ℤ) where
 module _ (f : ℕ → Bool) (m n : ℕ) (h : m < n) where
   pub bits-more : f m ≡ true → bitsFrom f m (n - m) ≡ 2 ^ m + bitsFrom f (m + 1) (n - (m + 1))
   unfolding bitsFrom
-  bits-more e = let d : n - m ≡ suc (n - (m + 1)) = omega arith in rw (d, add-one, e) (omega arith)
+  bits-more e = rw (one-left n m h, add-one, e) (omega arith)
 
   pub bits-same : f m ≡ false → bitsFrom f m (n - m) ≡ bitsFrom f (m + 1) (n - (m + 1))
   unfolding bitsFrom
-  bits-same e = let d : n - m ≡ suc (n - (m + 1)) = omega arith in rw (d, add-one, e) (omega arith)
+  bits-same e = rw (one-left n m h, add-one, e) (omega arith)
 
 pub bits-end : (f : ℕ → Bool) (m n : ℕ) → n ≤ m → bitsFrom f m (n - m) ≡ 0
 unfolding bitsFrom
-bits-end f m n h = let d : n - m ≡ 0 = omega arith in rw d
+bits-end f m n h = rw (sub-eq-zero-of-le h)
 
 -- ---- the update
 -- what a table's first four entries give, each difference of which fits
@@ -169,9 +177,19 @@ gains t s =
       e3 = simp ints (omega arith);
     }
 
--- a weight of a small list gains a small one
-pub gain-fits : {b : ℕ} {l : List ℤ} (k : ℕ) (v : ℤ) → Small b l → b ≤ 2 ^ 60 → ∣ v ∣ ≤ 2 ^ 60 → SFits w64 (getD l k (pos 0) +ℤ v)
-gain-fits {b} {l} k v s h i = sum-fits (getD l k (pos 0)) v (omega (arith, s .each k)) i
+-- a place that has gained nothing yet gains: before is what the size rule bounds
+pub gain-fits : {b c : ℕ} (before now : List ℤ) (k : ℕ) (v : ℤ) → ∣ getD before k (pos 0) ∣ ≤ b → getD now k (pos 0) ≡ getD before k (pos 0) → ∣ v ∣ ≤ c → b + c ≤ 2 ^ 60 → SFits w64 (getD now k (pos 0) +ℤ v)
+gain-fits before now k v s e h i = fit (getD now k (pos 0) +ℤ v) (omega (arith, gain-size before now k v s e h))
+
+-- the neighbours that are there are decisions, and the second is another than the first
+pub first-low : (count j k : ℕ) → Apart 64 (take count (j ∷ k ∷ [])) → count ≢ 0 → j < 64
+first-low zero j k a h = absurd (h refl)
+first-low (suc count) j k a h = apart-head a
+
+pub second-other : (count j k : ℕ) → count ≡ 2 → Apart 64 (take count (j ∷ k ∷ [])) → (k < 64) × (k ≢ j)
+second-other count j k e a =
+    let both : Apart 64 (j ∷ k ∷ []) = subst (λ (c : ℕ). Apart 64 (take c (j ∷ k ∷ []))) e a in
+    (apart-head (apart-tail both), λ q. out-cons j k [] (apart-new both) .0 (sym q))
 
 module _ (t : ℕ → ℤ) (f g : Frame) (l e : List ℤ) (j k : ℕ) (h : g ≡ withConstant f (f .constant +ℤ t 0)) where
   abbrev near : ℕ → List ℕ
@@ -191,24 +209,22 @@ module _ (t : ℕ → ℤ) (f g : Frame) (l e : List ℤ) (j k : ℕ) (h : g ≡
   unfolding absorb addConstant addLinear addEdge
   absorb-two count l₁ l₂ e₁ z p q r = rw z (ap (λ (x : Frame). held x l₂ e₁) h ∙ rw (r, q, p))
 
-absorb-same : (t u : ℕ → ℤ) (js : List ℕ) (g : Graph) → ((m : ℕ) → m < 8 → t m ≡ u m) → absorb t js g ≡ absorb u js g
-unfolding absorb
-absorb-same t u [] g h = rw (h 0 (omega arith))
-absorb-same t u (j ∷ []) g h = rw (h 0 (omega arith), h 1 (omega arith))
-absorb-same t u (j ∷ k ∷ js) g h = rw (h 0 (omega arith), h 1 (omega arith), h 2 (omega arith), h 3 (omega arith))
-
--- the first two places hold the whole of a list of at most two
-first-two : (js : List ℕ) (n j k : ℕ) → n ≡ length js → j ≡ getD js 0 0 → k ≡ getD js 1 0 → n ≤ 2 → take n (j ∷ k ∷ []) ≡ js
-first-two [] n j k e p q h = rw e
-first-two (x ∷ []) n j k e p q h = rw (e, p)
-first-two (x ∷ y ∷ []) n j k e p q h = rw (e, p, q)
-first-two (x ∷ y ∷ z ∷ js) n j k e p q h = absurd (omega arith)
-
 module _ (g : Graph) (i : ℕ) (near : Near) (is : near ≡ nearOf g i) (few : near .count ≤ 2) where
+  short : length (neighbours g i) ≤ 2
+  short = omega (arith, near-count g i near is)
+
+  -- the first two places hold all neighbours
+  pair-is : take (near .count) (getD (near .list) 0 0 ∷ getD (near .list) 1 0 ∷ []) ≡ neighbours g i
+  pair-is = rw (near-count g i near is, near-list g i near is 0 (omega arith), near-list g i near is 1 (omega arith)) (pair-whole (neighbours g i) short)
+
+  pub pair-apart : g .n ≤ 64 → Apart 64 (take (near .count) (getD (near .list) 0 0 ∷ getD (near .list) 1 0 ∷ []))
+  pair-apart h = subst (Apart 64) (sym pair-is) (apart-wider h (neighbours-apart g i))
+
   pub eliminated : (d r : Graph) (t : List ℤ) → t ≡ tab (tee g i) 8 → d ≡ dropTo 3 i g
       → r ≡ absorb (λ m. getD t m (pos 0)) (take (near .count) (getD (near .list) 0 0 ∷ getD (near .list) 1 0 ∷ [])) d → r ≡ eliminate i g
   unfolding eliminate
   eliminated d r t e p q =
       q
-      ∙ ap₂ (absorb (λ m. getD t m (pos 0))) (first-two (neighbours g i) (near .count) (getD (near .list) 0 0) (getD (near .list) 1 0) (near-count g i near is) (near-list g i near is 0 (omega arith)) (near-list g i near is 1 (omega arith)) few) p
-      ∙ absorb-same (λ m. getD t m (pos 0)) (tee g i) (neighbours g i) (dropTo 3 i g) (λ m l. ap (λ (x : List ℤ). getD x m (pos 0)) e ∙ tab-at (tee g i) 8 m (pos 0) l)
+      ∙ ap₂ (absorb (λ m. getD t m (pos 0))) pair-is p
+      ∙ absorb-same (λ m. getD t m (pos 0)) (tee g i) (neighbours g i) (dropTo 3 i g) short
+      (λ m l. ap (λ (x : List ℤ). getD x m (pos 0)) e ∙ tab-at (tee g i) 8 m (pos 0) (omega (arith, l, pow-mono {j = 2} short)))

@@ -6,6 +6,7 @@ ghost use lib.ListN.{getD, take};
 ghost use lib.IntN.{pos};
 ghost use lib.Signed.{ltZ};
 ghost use Rattle.whole.specs.Parts.{∣_∣};
+ghost use Rattle.whole.specs.Different.{Apart};
 ghost use Rattle.whole.specs.Words.{below0};
 ghost use Rattle.rules.specs.Eliminate.{absorb as absorbed, eliminate as eliminated, stepOf};
 ghost use Rattle.rules.specs.Record.{hold};
@@ -147,7 +148,7 @@ pub fn absorb(
     j: usize,
     k: usize,
 ) -> graph::Frame
-    requires { ⌜ (j < 64) × (k < 64) × (count ≤ 2) × (∣ f .constant ∣ ≤ 2 ^ 50) × Small (2 ^ 50) (now lin) × Small (2 ^ 50) (now edges) × Small (2 ^ 50) t ⌝ }
+    requires { ⌜ Apart 64 (take count (j ∷ k ∷ [])) × (count ≤ 2) × Within (held f (now lin) (now edges)) × Small (2 ^ 50) t ⌝ }
     ensures { λ r. ⌜ (held r (now (lin .exit)) (now (edges .exit)) ≡ absorbed (λ m. getD t m (pos 0)) (take count (j ∷ k ∷ [])) (held f (now (lin .entry)) (now (edges .entry))))
         × ((n : ℕ) → (count ≡ 2 → (j < n) × (k < n)) → Shows n (now (edges .entry)) (now (masks .entry)) → Shows n (now (edges .exit)) (now (masks .exit))) ⌝ }
 {

@@ -11,14 +11,14 @@ use native.Mathlib.Omega.{arith}
 use native.Mathlib.Nat.{pow-suc}
 use lib.Pow.{pow-pos}
 use lib.Dec.{eqb}
-use lib.ListN.{length, set}
+use lib.ListN.{length}
 use lib.Seq.{getD-set-other, getD-set-same}
 use lib.IntN.{ℤ, pos, _+ℤ_, +ℤ-idr}
 use lib.Signed.{ltZ, _≤ℤ_, _<ℤ_, ≤ℤ-refl}
 use borrow.Author.Tests.{eqb-true, eqb-false, eq-eqb, ne-eqb}
 use Rattle.whole.specs.Ints.{ints, zarith}
 use Rattle.whole.specs.Cmp.{lt-ind}
-use Rattle.whole.specs.Words.{isZeroZ, odd, oneIf, upto, mem, those, some, chosen}
+use Rattle.whole.specs.Words.{isZeroZ, odd, oneIf, upto, mem, some, chosen}
 use Rattle.rules.specs.Graph.{Graph, lin, edge, row, dropTo}
 use Rattle.rules.specs.SmallBlock.{boundary, inner, cheapest, bestMask, blockTable, dropAll, eliminateBlock}
 use Rattle.whole.specs.Sum.{Σ-cong}
@@ -27,8 +27,8 @@ use Rattle.meaning.specs.CostLaws.{cost, Shaped, drop-cost, clear-zero, 
 use Rattle.whole.specs.Cmp.{zero-of}
 use Rattle.meaning.specs.EliminateLaws.{maskAt, odd-of, half-of, chosen-mask, shaped-drop, Pair, empty, single, double, absorb-cost}
 use Rattle.whole.specs.Pigeon.{Apart, none, one}
-use Rattle.whole.specs.Tests.{cases, clash, and-both, not-off, on-not, off-not, refuse}
-use Rattle.whole.specs.Members.{nobody, in-cons, in-head, in-tail, out-append, out-cons, out-of-cons, differ, in-those, to-those, in-upto, some-true, apart-head, apart-new, apart-tail, apart-left, apart-right, apart-below, apart-join, apart-those, apart-upto}
+use Rattle.whole.specs.Tests.{cases, clash, and-both, not-off, on-not, off-not, refuse, and-true}
+use Rattle.whole.specs.Members.{nobody, in-cons, in-head, in-tail, out-append, out-cons, out-of-cons, differ, in-those, to-those, in-upto, some-true, apart-head, apart-new, apart-tail, apart-left, apart-right, apart-below, apart-join, apart-those, apart-upto, upto-in}
 use Rattle.meaning.specs.OverLists.{over-append, over-all}
 
 -- ---- what dropping i leaves alone, and what it makes 0
@@ -74,16 +74,13 @@ module _ (x : ℕ → Bool) (out : List ℕ) where
   member-delta g i is s a h =
       ap (λ (z : ℤ). lin g i +ℤ z)
       (sym (over-all (pull g x i) (g .n) (apart-tail a) zeros) ∙ over-append (pull g x i) is out ∙ ap₂ (λ (u v : ℤ). u +ℤ v) (sym (chosen-mask x (edge g i) is)) (sym (chosen-mask x (edge g i) out)))
-      ∙ turn (lin g i) (chosen (row g i is) (maskAt x is)) (chosen (row g i out) (maskAt x out))
+      ∙ sym (swap-last (lin g i) (chosen (row g i out) (maskAt x out)) (chosen (row g i is) (maskAt x is)))
     where
       zeros : (j : ℕ) → j < g .n → mem j (is ++ out) ≡ false → pull g x i j ≡ pos 0
       zeros j l m = ap (when (x j)) (cases (eqb j i)
           (λ e. ap (edge g i) (eqb-true j i e) ∙ s .self i (apart-head a))
           (λ e. h i j (in-head i is) l (out-of-cons j i (is ++ out) (eqb-false j i e) m)))
           ∙ when-zero (x j)
-
-      turn : (a b c : ℤ) → a +ℤ (b +ℤ c) ≡ a +ℤ c +ℤ b
-      turn a b c = simp ints (omega zarith)
 
   inside-drop : (g : Graph) (i : ℕ) (is : List ℕ) → Shaped g → Apart (g .n) (i ∷ is ++ out) → Inside g (i ∷ is) out → Inside (dropTo 3 i g) is out
   unfolding dropTo
@@ -289,13 +286,16 @@ pub boundary-apart : (g : Graph) (b : List ℕ) → Apart (g .n) (boundary g b)
 unfolding boundary
 boundary-apart g b = apart-those (λ j. not (mem j b) && some (λ i. not (isZeroZ (edge g i j))) b) (apart-upto (g .n))
 
-pub boundary-outside : (g : Graph) (b : List ℕ) (k : ℕ) → mem k (boundary g b) ≡ true → mem k b ≡ false
+-- one of the boundary is a decision, no member, and some member's neighbour
+pub in-boundary : (g : Graph) (b : List ℕ) (k : ℕ) → mem k (boundary g b) ≡ true → (k < g .n) × (mem k b ≡ false) × (some (λ i. not (isZeroZ (edge g i k))) b ≡ true)
 unfolding boundary
-boundary-outside g b k h = off-not (mem k b) (first (mem k b) (in-those (λ j. not (mem j b) && some (λ i. not (isZeroZ (edge g i j))) b) k (upto (g .n)) h .1))
-  where
-    first : (c : Bool) → (not c && some (λ i. not (isZeroZ (edge g i k))) b) ≡ true → not c ≡ true
-    first true h = h
-    first false h = refl
+in-boundary g b k h =
+    let p = in-those (λ j. not (mem j b) && some (λ i. not (isZeroZ (edge g i j))) b) k (upto (g .n)) h in
+    let q = and-true (not (mem k b)) (some (λ i. not (isZeroZ (edge g i k))) b) (p .1) in
+    (upto-in k (g .n) (p .0), off-not (mem k b) (q .0), q .1)
+
+pub boundary-outside : (g : Graph) (b : List ℕ) (k : ℕ) → mem k (boundary g b) ≡ true → mem k b ≡ false
+boundary-outside g b k h = in-boundary g b k h .1
 
 -- what is neither a member nor on the boundary has no edge to a member
 pub boundary-inside : (g : Graph) (b : List ℕ) → Inside g b (boundary g b)

@@ -6,7 +6,7 @@ use mathlib.Core.Bool.{Bool, true, cond}
 use mathlib.Core.List.{List, [], _∷_}
 use Prim.Native.Nat.{ℕ, zero, suc, _+_, _*_, _/_, _^_, _<_}
 use native.Mathlib.Omega.{arith}
-use native.Mathlib.Nat.{pow-suc, not-suc-le-zero, div-div-eq-div-mul, div-one, one-mul}
+use native.Mathlib.Nat.{pow-suc, not-suc-le-zero, div-div-eq-div-mul, div-one, one-mul, add-zero, zero-add}
 use lib.Dec.{eqb}
 use lib.ListN.{length}
 use Rattle.whole.specs.Words.{bit, oneIf, mem, bitsFrom}
@@ -20,6 +20,7 @@ use Rattle.whole.specs.Members.{in-tail}
 use Rattle.meaning.specs.BlockCost.{put, put-other, mask-ext, mask-below, boundary-outside, cost-ext}
 use Rattle.meaning.specs.Found.{found-plan}
 use Rattle.whole.specs.Masks.{bit-half, bit-first}
+use Rattle.whole.specs.Counts.{shift}
 
 -- ---- choices: bit m of the byte is the choice for mask m
 -- the byte's digits, from the choice for b up
@@ -38,21 +39,12 @@ bits-digits f b (suc c) = ap (λ (z : ℕ). oneIf (f b) * 2 ^ b + z) (bits-digit
 digit-is : (f : ℕ → Bool) (c b m : ℕ) → m < c → bit (digits f b c) m ≡ f (b + m)
 unfolding digits
 digit-is f zero b m l = absurd (not-suc-le-zero l)
-digit-is f (suc c) b zero l = bit-first (oneIf (f b) + 2 * digits f (suc b) c) ∙ odd-of (f b) (digits f (suc b) c) ∙ ap f stay
-  where
-    stay : b ≡ b + 0
-    stay = omega arith
+digit-is f (suc c) b zero l = bit-first (oneIf (f b) + 2 * digits f (suc b) c) ∙ odd-of (f b) (digits f (suc b) c) ∙ ap f (sym (add-zero b))
 digit-is f (suc c) b (suc m) l =
-    bit-half (oneIf (f b) + 2 * digits f (suc b) c) m ∙ ap (λ (z : ℕ). bit z m) (half-of (f b) (digits f (suc b) c)) ∙ digit-is f c (suc b) m (omega arith) ∙ ap f shift
-  where
-    shift : suc b + m ≡ b + suc m
-    shift = omega arith
+    bit-half (oneIf (f b) + 2 * digits f (suc b) c) m ∙ ap (λ (z : ℕ). bit z m) (half-of (f b) (digits f (suc b) c)) ∙ digit-is f c (suc b) m (omega arith) ∙ ap f (shift b m)
 
 pub choice-is : (f : ℕ → Bool) (c m : ℕ) → m < c → bit (bitsFrom f 0 c) m ≡ f m
-choice-is f c m l = ap (λ (z : ℕ). bit z m) (bits-digits f 0 c ∙ one-mul (digits f 0 c)) ∙ digit-is f c 0 m l ∙ ap f plain
-  where
-    plain : 0 + m ≡ m
-    plain = omega arith
+choice-is f c m l = ap (λ (z : ℕ). bit z m) (bits-digits f 0 c ∙ one-mul (digits f 0 c)) ∙ digit-is f c 0 m l ∙ ap f (zero-add m)
 
 -- ---- playing steps on a plan, last to first
 unfoldable pub played : List Step → (ℕ → Bool) → ℕ → Bool

@@ -197,11 +197,8 @@ turn-reduces g i j s li lj h = record { costs = λ x. all x }
         sort : (a p b c u : ℤ) → a +ℤ p +ℤ b +ℤ c +ℤ u ≡ a +ℤ u +ℤ (p +ℤ b +ℤ c)
         sort a p b c u = simp ints (omega zarith)
 
-        none : (a b : ℤ) → a +ℤ pos 0 +ℤ b ≡ a +ℤ (b +ℤ pos 0)
-        none a b = simp ints (omega zarith)
-
         sums : (b : Bool) → x j ≡ b → lin g i +ℤ when b (negℤ (lin g i)) +ℤ when (not b) (offSum g i j x) ≡ when (not b) (deltaOf (g .n) (lin g) (edge g) x i)
         sums true p = simp ints (omega zarith)
         sums false p =
-            none (lin g i) (offSum g i j x)
+            swap-last (lin g i) (pos 0) (offSum g i j x)
             ∙ ap (λ (z : ℤ). lin g i +ℤ z) (ap (λ (b : Bool). offSum g i j x +ℤ when b (edge g i j)) (sym p) ∙ sym (split-off g i j x lj))

@@ -2,7 +2,7 @@
 -- Assumes nothing.
 use mathlib.Core.Path.{_≡_, refl, sym, ap, _∙_, subst}
 use mathlib.Core.Bool.{Bool}
-use mathlib.Core.List.{List, [], _∷_}
+use mathlib.Core.List.{List}
 use mathlib.Core.Logic.{_≢_}
 use Prim.Native.Nat.{ℕ, zero, suc, _+_, _*_, _<_, _≤_}
 use native.Mathlib.Omega.{arith}
@@ -13,6 +13,7 @@ use lib.Seq.{getD-set-same, getD-set-other}
 use lib.IntN.{ℤ, pos, _+ℤ_}
 use Rattle.rules.specs.Graph.{Graph, lin, edge, addConstant, addLinear, addEdge, clear, dropTo}
 use Rattle.meaning.specs.Cost.{when, when-swap, costOf, deltaOf, cost-base, cost-lin, cost-edge, cost-drop}
+use Rattle.whole.specs.Cells.{row-of, still-set, cells-other}
 
 -- the cost of x in a graph
 abbrev pub cost : Graph → (ℕ → Bool) → ℤ
@@ -32,12 +33,6 @@ pub in64 : {g : Graph} → Shaped g → (k : ℕ) → k < g .n → k < 64
 in64 s k l = omega (arith, s .few)
 
 -- a cell's place says its row and its column
-pub row-of : (i j k l : ℕ) → j < 64 → l < 64 → 64 * i + j ≡ 64 * k + l → i ≡ k
-row-of i j k l p q e = omega arith
-
-pub col-of : (i j k l : ℕ) → j < 64 → l < 64 → 64 * i + j ≡ 64 * k + l → j ≡ l
-col-of i j k l p q e = omega arith
-
 pub base-cost : (g : Graph) (x : ℕ → Bool) (v : ℤ) → cost (addConstant v g) x ≡ cost g x +ℤ v
 unfolding addConstant
 base-cost g x v = cost-base (g .n) (g .constant) x (lin g) (edge g) v
@@ -72,10 +67,7 @@ module _ (g : Graph) (k l : ℕ) (v : ℤ) (s : Shaped g) (lk : k < g .n) (ll : 
   unfolding addEdge
   elsewhere i j li lj p q =
       let few : g .n ≤ 64 = s .few in
-      getD-set-other (set (g .edges) (64 * k + l) (edge g k l +ℤ v)) (64 * l + k) (64 * i + j) (edge g l k +ℤ v) (pos 0)
-      (λ e. q (row-of i j l k (omega arith) (omega arith) e) (col-of i j l k (omega arith) (omega arith) e))
-      ∙ getD-set-other (g .edges) (64 * k + l) (64 * i + j) (edge g k l +ℤ v) (pos 0)
-      (λ e. p (row-of i j k l (omega arith) (omega arith) e) (col-of i j k l (omega arith) (omega arith) e))
+      cells-other (g .edges) (pos 0) k l i j (edge g k l +ℤ v) (edge g l k +ℤ v) (omega arith) (omega arith) (omega arith) p q
 
   pub edge-cost : (x : ℕ → Bool) → cost (addEdge k l v g) x ≡ cost g x +ℤ when (x k) (when (x l) v)
   unfolding addEdge
@@ -102,18 +94,8 @@ pub clear-other : (i : ℕ) (e : List ℤ) (p q : ℕ) → i < 64 → p < 64 →
 unfolding clear
 clear-other i e p q li lp lq np nq zero lc = refl
 clear-other i e p q li lp lq np nq (suc c) lc =
-    getD-set-other (set (clear i c e) (64 * i + c) (pos 0)) (64 * c + i) (64 * p + q) (pos 0) (pos 0)
-    (λ t. nq (col-of p q c i lq li t))
-    ∙ getD-set-other (clear i c e) (64 * i + c) (64 * p + q) (pos 0) (pos 0) (λ t. np (row-of p q i c lq (omega arith) t))
+    cells-other (clear i c e) (pos 0) i c p q (pos 0) (pos 0) li (omega arith) lq (λ t. absurd (np t)) (λ t. nq)
     ∙ clear-other i e p q li lp lq np nq c (omega arith)
-
--- a cell that a set leaves, or makes 0, is 0 if it was
-set-zero : (e : List ℤ) (m p : ℕ) → getD e p (pos 0) ≡ pos 0 → getD (set e m (pos 0)) p (pos 0) ≡ pos 0
-set-zero [] m p h = h
-set-zero (a ∷ e) zero zero h = refl
-set-zero (a ∷ e) zero (suc p) h = h
-set-zero (a ∷ e) (suc m) zero h = h
-set-zero (a ∷ e) (suc m) (suc p) h = set-zero e m p h
 
 pub clear-zero : (i : ℕ) (e : List ℤ) (q : ℕ) → i < 64 → q < 64 → length e ≡ 4096 → (c : ℕ) → c ≤ 64 → q < c
     → (getD (clear i c e) (64 * i + q) (pos 0) ≡ pos 0) × (getD (clear i c e) (64 * q + i) (pos 0) ≡ pos 0)
@@ -125,12 +107,12 @@ clear-zero i e q li lq le (suc c) lc h = go (ℕ-discrete q c) (λ t. clear-zero
         → (getD (clear i (suc c) e) (64 * i + q) (pos 0) ≡ pos 0) × (getD (clear i (suc c) e) (64 * q + i) (pos 0) ≡ pos 0)
     go (no d) r =
         let old = r (omega arith) in (
-          set-zero (set (clear i c e) (64 * i + c) (pos 0)) (64 * c + i) (64 * i + q) (set-zero (clear i c e) (64 * i + c) (64 * i + q) (old .0)),
-          set-zero (set (clear i c e) (64 * i + c) (pos 0)) (64 * c + i) (64 * q + i) (set-zero (clear i c e) (64 * i + c) (64 * q + i) (old .1)),
+          still-set (pos 0) (pos 0) (set (clear i c e) (64 * i + c) (pos 0)) (64 * c + i) (64 * i + q) (still-set (pos 0) (pos 0) (clear i c e) (64 * i + c) (64 * i + q) (old .0)),
+          still-set (pos 0) (pos 0) (set (clear i c e) (64 * i + c) (pos 0)) (64 * c + i) (64 * q + i) (still-set (pos 0) (pos 0) (clear i c e) (64 * i + c) (64 * q + i) (old .1)),
         )
     go (yes t) r =
         subst (λ (m : ℕ). (getD (clear i (suc c) e) (64 * i + m) (pos 0) ≡ pos 0) × (getD (clear i (suc c) e) (64 * m + i) (pos 0) ≡ pos 0)) (sym t) (
-          set-zero (set (clear i c e) (64 * i + c) (pos 0)) (64 * c + i) (64 * i + c)
+          still-set (pos 0) (pos 0) (set (clear i c e) (64 * i + c) (pos 0)) (64 * c + i) (64 * i + c)
               (getD-set-same (clear i c e) (64 * i + c) (pos 0) (pos 0) (omega (arith, clear-length i c e))),
           getD-set-same (set (clear i c e) (64 * i + c) (pos 0)) (64 * c + i) (pos 0) (pos 0)
               (omega (arith, clear-length i c e, length-set (clear i c e) (64 * i + c) (pos 0))),

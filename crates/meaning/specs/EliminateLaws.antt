@@ -6,6 +6,7 @@ use mathlib.Core.Logic.{_≢_}
 use Prim.Native.Nat.{ℕ, zero, suc, _+_, _*_, _/_, _%_, _<_}
 use native.Mathlib.Omega.{arith}
 use native.Mathlib.Decide.{ℕ-discrete}
+use native.Mathlib.Nat.{add-zero, zero-add}
 use lib.Dec.{eqb}
 use lib.ListN.{length-set}
 use lib.IntN.{ℤ, pos, _+ℤ_, +ℤ-assoc, +ℤ-idl, +ℤ-idr}
@@ -14,6 +15,7 @@ use Rattle.whole.specs.Cmp.{zero-of}
 use Rattle.rules.specs.Graph.{Graph, lin, edge, neighbours, dropTo}
 use Rattle.rules.specs.Eliminate.{absorb, delta}
 use Rattle.whole.specs.Sum.{Σ<}
+use Rattle.whole.specs.Counts.{shift}
 use Rattle.meaning.specs.Cost.{when, when-zero, deltaOf}
 use Rattle.meaning.specs.CostLaws.{cost, Shaped, in64, clear-length, clear-zero, clear-other}
 use Rattle.meaning.specs.AbsorbLaws.{none-of, one-of, two-of}
@@ -51,23 +53,14 @@ chosen-mask x w (j ∷ js) =
 
 over-from : (F : ℕ → ℤ) (k c : ℕ) → over F (from k (suc c)) ≡ over F (from k c) +ℤ F (k + c)
 unfolding over from
-over-from F k zero = +ℤ-idr (F k) ∙ ap F plus-zero ∙ sym (+ℤ-idl (F (k + zero)))
-  where
-    plus-zero : k ≡ k + zero
-    plus-zero = omega arith
+over-from F k zero = +ℤ-idr (F k) ∙ ap F (sym (add-zero k)) ∙ sym (+ℤ-idl (F (k + zero)))
 over-from F k (suc c) =
-    ap (λ (z : ℤ). F k +ℤ z) (over-from F (suc k) c ∙ ap (λ (m : ℕ). over F (from (suc k) c) +ℤ F m) shift) ∙ sym (+ℤ-assoc (F k) (over F (from (suc k) c)) (F (k + suc c)))
-  where
-    shift : suc k + c ≡ k + suc c
-    shift = omega arith
+    ap (λ (z : ℤ). F k +ℤ z) (over-from F (suc k) c ∙ ap (λ (m : ℕ). over F (from (suc k) c) +ℤ F m) (shift k c)) ∙ sym (+ℤ-assoc (F k) (over F (from (suc k) c)) (F (k + suc c)))
 
 pub over-upto : (F : ℕ → ℤ) (n : ℕ) → over F (upto n) ≡ Σ< n F
 unfolding over from Σ<
 over-upto F zero = refl
-over-upto F (suc n) = over-from F 0 n ∙ ap₂ (λ (a b : ℤ). a +ℤ b) (over-upto F n) (ap F zero-plus)
-  where
-    zero-plus : 0 + n ≡ n
-    zero-plus = omega arith
+over-upto F (suc n) = over-from F 0 n ∙ ap₂ (λ (a b : ℤ). a +ℤ b) (over-upto F n) (ap F (zero-add n))
 
 -- what is left out of a sum is 0
 pub over-those : (F w : ℕ → ℤ) → ((k : ℕ) → w k ≡ pos 0 → F k ≡ pos 0) → (js : List ℕ) → over F (those (λ j. not (isZeroZ (w j))) js) ≡ over F js

@@ -1,7 +1,7 @@
 -- What the search for a block returns: different active decisions, 2 to 8 of them, with at most two outside neighbours. So the laws of BlockCost hold of it.
 -- Assumes nothing.
 use mathlib.Core.Path.{_≡_, refl, sym, ap, _∙_, subst}
-use mathlib.Core.Bool.{Bool, true, false, cond, not, _&&_}
+use mathlib.Core.Bool.{Bool, true, false, cond, not}
 use mathlib.Core.List.{List, [], _∷_, _++_}
 use Prim.Native.Nat.{ℕ, _<_, _≤_}
 use native.Mathlib.Omega.{arith}
@@ -18,7 +18,7 @@ use Rattle.whole.specs.Pigeon.{Apart}
 use Rattle.whole.specs.Tests.{clash, refuse, on-not, off-not, and-true, or-true}
 use Rattle.whole.specs.Members.{in-single, in-head, in-tail, in-left, in-those, upto-in, few, apart-below}
 use Rattle.meaning.specs.Growth.{Grown, component-grown, to-nbrs, network}
-use Rattle.meaning.specs.BlockCost.{boundary-apart, put, block-plan, block-least}
+use Rattle.meaning.specs.BlockCost.{boundary-apart, in-boundary, put, block-plan, block-least}
 
 -- an edge leads to an active decision only
 abbrev pub Tidy : Graph → Type 0
@@ -129,13 +129,11 @@ some-witness p (x ∷ xs) h f = or-true (p x) (some p xs) h (λ t. f x (in-head 
 
 -- an outside neighbour of a component is set aside
 pub boundary-aside : (g : Graph) (aside b : List ℕ) (start : List ℕ) → Grown (g .n) (neighbours g) aside start b → (k : ℕ) → mem k (boundary g b) ≡ true → mem k aside ≡ true
-unfolding boundary
 boundary-aside g aside b start w k h =
-    let p = in-those (λ j. not (mem j b) && some (λ i. not (isZeroZ (edge g i j))) b) k (upto (g .n)) h in
-    let q = and-true (not (mem k b)) (some (λ i. not (isZeroZ (edge g i k))) b) (p .1) in
-    some-witness (λ i. not (isZeroZ (edge g i k))) b (q .1)
+    let p = in-boundary g b k h in
+    some-witness (λ i. not (isZeroZ (edge g i k))) b (p .2)
     (λ i mi e. on-not (mem k aside) (refuse (not (mem k aside))
-    (λ t. clash (w .closed i k mi (apart-below i (w .apart) mi) (to-nbrs g i k (upto-in k (g .n) (p .0)) (off-not (isZeroZ (edge g i k)) e)) (off-not (mem k aside) t)) (off-not (mem k b) (q .0)))))
+    (λ t. clash (w .closed i k mi (apart-below i (w .apart) mi) (to-nbrs g i k (p .0) (off-not (isZeroZ (edge g i k)) e)) (off-not (mem k aside) t)) (p .1))))
 
 pub record SmallBlock (g : Graph) (b : List ℕ) : Type 0 where
   pub apart : Apart (g .n) b

@@ -1,7 +1,7 @@
 -- Edges join active decisions only: kept by the updates and by eliminating a block; with it the search for a block is well founded (`neat-network`, `neat-tidy`).
 -- Assumes nothing.
-use mathlib.Core.Path.{_≡_, refl, sym, ap, _∙_, subst}
-use mathlib.Core.Bool.{true, false, not, _&&_}
+use mathlib.Core.Path.{_≡_, refl, sym, ap, _∙_, subst, ap₂}
+use mathlib.Core.Bool.{true, false, not}
 use mathlib.Core.List.{List, [], _∷_}
 use mathlib.Core.Logic.{_≢_}
 use Prim.Native.Nat.{ℕ, zero, suc, _+_, _*_, _<_, _≤_}
@@ -11,14 +11,16 @@ use lib.Dec.{eqb}
 use lib.ListN.{getD, set}
 use lib.Seq.{getD-set-other}
 use lib.IntN.{ℤ, pos, _+ℤ_}
-use Rattle.whole.specs.Words.{isZeroZ, upto, mem, some}
+use Rattle.whole.specs.Words.{isZeroZ, mem}
 use Rattle.rules.specs.Graph.{Graph, edge, active, neighbours, addConstant, addLinear, addEdge, clear, dropTo}
 use Rattle.rules.specs.SmallBlock.{boundary}
-use Rattle.meaning.specs.CostLaws.{Shaped, in64, row-of, col-of, clear-zero}
-use Rattle.whole.specs.Pigeon.{Apart, none, one}
-use Rattle.whole.specs.Tests.{clash, refuse, off-not, and-true}
-use Rattle.whole.specs.Members.{in-those, upto-in, apart-below}
+use Rattle.meaning.specs.CostLaws.{Shaped, in64, clear-zero}
+use Rattle.whole.specs.Pigeon.{Apart, one}
+use Rattle.whole.specs.Tests.{clash, refuse, off-not}
+use Rattle.whole.specs.Members.{apart-below, apart-wider}
+use Rattle.whole.specs.Cells.{row-of, col-of, cells-other}
 use Rattle.meaning.specs.Growth.{Network, neighbours-apart, in-nbrs, to-nbrs}
+use Rattle.meaning.specs.BlockCost.{in-boundary}
 use Rattle.meaning.specs.Found.{Tidy, some-witness}
 
 abbrev pub Live : Graph → ℕ → Type 0
@@ -33,16 +35,11 @@ neat-tidy g s w i j li m =
     let p = in-nbrs g i j m in
     w .ends i j (omega arith) (omega (arith, p .0)) (p .1) .1 .1
 
--- below m, so below any larger number
-pub wider : {m n : ℕ} {xs : List ℕ} → m ≤ n → Apart m xs → Apart n xs
-wider h none = none
-wider h (one {x = x} l d a) = one {x = x} (omega arith) d (wider h a)
-
 pub neat-network : (g : Graph) → Shaped g → Neat g → Network 64 (neighbours g)
 unfolding neighbours
 neat-network g s w = record {
   few = omega arith;
-  apart = λ i. wider (s .few) (neighbours-apart g i);
+  apart = λ i. apart-wider (s .few) (neighbours-apart g i);
   self = λ i l. refuse (mem i (neighbours g i)) (λ t. let p = in-nbrs g i i t in clash (ap isZeroZ (s .self i (p .0))) (p .1));
   both = λ i j l m.
       let p = in-nbrs g i j m in
@@ -73,8 +70,8 @@ neat-edge k l v g s w lk ll = record { ends = λ i j li lj e. go i j li lj e (�
     go i j li lj e (yes p) d = at i j l k ll lk (place i j l k lj (in64 s k (lk .0)) p)
     go i j li lj e (no p) (yes q) = at i j k l lk ll (place i j k l lj (in64 s l (ll .0)) q)
     go i j li lj e (no p) (no q) =
-        w .ends i j li lj (ap isZeroZ (sym (getD-set-other (set (g .edges) (64 * k + l) (edge g k l +ℤ v)) (64 * l + k) (64 * i + j) (edge g l k +ℤ v) (pos 0) p
-        ∙ getD-set-other (g .edges) (64 * k + l) (64 * i + j) (edge g k l +ℤ v) (pos 0) q)) ∙ e)
+        w .ends i j li lj (ap isZeroZ (sym (cells-other (g .edges) (pos 0) k l i j (edge g k l +ℤ v) (edge g l k +ℤ v) (in64 s k (lk .0)) (in64 s l (ll .0)) lj
+        (λ a b. q (ap₂ (λ (x y : ℕ). 64 * x + y) a b)) (λ a b. p (ap₂ (λ (x y : ℕ). 64 * x + y) a b)))) ∙ e)
 
 -- clearing only makes zeros
 set-keeps : (e : List ℤ) (m p : ℕ) → isZeroZ (getD (set e m (pos 0)) p (pos 0)) ≡ false → getD (set e m (pos 0)) p (pos 0) ≡ getD e p (pos 0)
@@ -113,9 +110,7 @@ neat-drop t i g s w li = record {
 
 -- an outside neighbour is active
 pub boundary-live : (g : Graph) (b : List ℕ) → Shaped g → Neat g → Apart (g .n) b → (k : ℕ) → mem k (boundary g b) ≡ true → Live g k
-unfolding boundary
 boundary-live g b s w a k h =
-    let p = in-those (λ j. not (mem j b) && some (λ i. not (isZeroZ (edge g i j))) b) k (upto (g .n)) h in
-    let q = and-true (not (mem k b)) (some (λ i. not (isZeroZ (edge g i k))) b) (p .1) in
-    some-witness (λ i. not (isZeroZ (edge g i k))) b (q .1)
-    (λ i mi e. w .ends i k (in64 s i (apart-below i a mi)) (in64 s k (upto-in k (g .n) (p .0))) (off-not (isZeroZ (edge g i k)) e) .1)
+    let p = in-boundary g b k h in
+    some-witness (λ i. not (isZeroZ (edge g i k))) b (p .2)
+    (λ i mi e. w .ends i k (in64 s i (apart-below i a mi)) (in64 s k (p .0)) (off-not (isZeroZ (edge g i k)) e) .1)

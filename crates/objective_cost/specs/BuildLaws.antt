@@ -6,25 +6,21 @@ use mathlib.Core.List.{List, [], _∷_, _++_}
 use mathlib.Core.Logic.{_≢_}
 use Prim.Native.Nat.{ℕ, zero, suc, _+_, _*_, _-_, _<_, _≤_}
 use native.Mathlib.Omega.{arith}
+use native.Mathlib.Nat.{add-zero, zero-add}
 use lib.Dec.{eqb}
 use lib.ListN.{length, getD, replicate, length-append, length-replicate, getD-replicate, List·getD-append}
-use lib.IntN.{ℤ, pos, _+ℤ_, _*ℤ_, +ℤ-assoc, +ℤ-idl, +ℤ-idr}
+use lib.IntN.{ℤ, pos, _+ℤ_, +ℤ-assoc, +ℤ-idl, +ℤ-idr}
 use borrow.Author.Tests.{eqb-true, eqb-false}
-use Rattle.whole.specs.Words.{oneIf}
-use Rattle.whole.specs.Ints.{ints}
 use Rattle.rules.specs.Objective.{Objective}
 use Rattle.rules.specs.Graph.{Graph, lin, edge, addLinear, addEdge, addTerm, addTerms, noEdges, bare}
 use Rattle.whole.specs.Sum.{Σ<, Σ-cong}
+use Rattle.whole.specs.Counts.{shift}
 use Rattle.meaning.specs.Cost.{when, chosen-zero, rowCost, costOf}
 use Rattle.meaning.specs.CostLaws.{cost, Shaped, lin-cost, edge-cost}
 use Rattle.meaning.specs.AbsorbLaws.{shaped-lin, shaped-edge}
 use Rattle.objective_cost.specs.ObjectiveCost.{linearCost, termsCost}
 
 -- ---- a·x for x of 0 or 1
-pub when-product : (b : Bool) (a : ℤ) → when b a ≡ a *ℤ pos (oneIf b)
-when-product true a = simp ints (omega arith)
-when-product false a = simp ints (omega arith)
-
 -- ---- sums taken from the front
 pub sum-front : (f : ℕ → ℤ) (n : ℕ) → Σ< (suc n) f ≡ f 0 +ℤ Σ< n (λ i. f (suc i))
 unfolding Σ<
@@ -35,11 +31,10 @@ linear-sum : (i : ℕ) (ws : List ℤ) (x : ℕ → Bool) → Σ< (length ws) (�
 unfolding Σ< linearCost
 linear-sum i [] x = refl
 linear-sum i (a ∷ ws) x =
-    let here : i + 0 ≡ i = omega arith in
     sum-front (λ k. when (x (i + k)) (getD (a ∷ ws) k (pos 0))) (length ws)
-    ∙ ap₂ (λ (u v : ℤ). u +ℤ v) (ap (λ (k : ℕ). when (x k) a) here)
+    ∙ ap₂ (λ (u v : ℤ). u +ℤ v) (ap (λ (k : ℕ). when (x k) a) (add-zero i))
     (Σ-cong (length ws) (λ k. when (x (i + suc k)) (getD ws k (pos 0))) (λ k. when (x (suc i + k)) (getD ws k (pos 0)))
-    (λ k l. let e : i + suc k ≡ suc i + k = omega arith in ap (λ (m : ℕ). when (x m) (getD ws k (pos 0))) e)
+    (λ k l. ap (λ (m : ℕ). when (x m) (getD ws k (pos 0))) (sym (shift i k)))
     ∙ linear-sum (suc i) ws x)
 
 -- ---- no term yet
@@ -76,11 +71,10 @@ module _ (o : Objective) (few : o .n ≤ 64) (long : length (o .weights) ≡ o .
     where
       rows : (k : ℕ) → k < o .n → rowCost (lin (bare o)) (edge (bare o)) x k ≡ when (x (0 + k)) (getD (o .weights) k (pos 0))
       rows k l =
-          let same : k ≡ 0 + k = omega arith in
           ap₂ (λ (u v : ℤ). when (x k) (u +ℤ v)) (bare-lin k l)
           (chosen-zero x (edge (bare o) k) k (λ j m. bare-edge k j (omega arith) (omega arith)))
           ∙ ap (when (x k)) (+ℤ-idr (getD (o .weights) k (pos 0)))
-          ∙ ap (λ (m : ℕ). when (x m) (getD (o .weights) k (pos 0))) same
+          ∙ ap (λ (m : ℕ). when (x m) (getD (o .weights) k (pos 0))) (sym (zero-add k))
 
 -- ---- the terms
 twice : (b : Bool) (w : ℤ) → when b w ≡ when b (when b w)

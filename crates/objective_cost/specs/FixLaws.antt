@@ -7,6 +7,7 @@ use mathlib.Core.Logic.{_≢_}
 use Prim.Native.Nat.{ℕ, zero, suc, _+_, _<_, _≤_}
 use native.Mathlib.Omega.{arith}
 use native.Mathlib.Decide.{ℕ-discrete}
+use native.Mathlib.Nat.{add-zero, zero-add}
 use lib.Dec.{ltb, eqb}
 use lib.ListN.{length, getD}
 use lib.IntN.{ℤ, pos, _+ℤ_}
@@ -19,6 +20,7 @@ use Rattle.rules.specs.Graph.{Graph, lin, edge, neighbours, addConstant, addLin
 use Rattle.rules.specs.SmallBlock.{dropAll}
 use Rattle.rules.specs.Fixing.{spread, fix, fixAll}
 use Rattle.whole.specs.Sum.{Σ-cong}
+use Rattle.whole.specs.Counts.{shift}
 use Rattle.meaning.specs.Cost.{when, when-zero, deltaOf}
 use Rattle.meaning.specs.CostLaws.{cost, Shaped, drop-cost}
 use Rattle.meaning.specs.AbsorbLaws.{shaped-base, shaped-lin}
@@ -113,17 +115,11 @@ unfolding putFrom
 put-at i [] x k = refl
 put-at i (v ∷ vs) x zero = go (ltb v 2)
   where
-    here : i + 0 ≡ i
-    here = omega arith
-
     go : (t : Bool) → cond t (setAt i (eqb v 1) (putFrom (suc i) vs x)) (putFrom (suc i) vs x) (i + 0) ≡ cond t (eqb v 1) (x (i + 0))
-    go true = ap (setAt i (eqb v 1) (putFrom (suc i) vs x)) here ∙ set-same i (eqb v 1) (putFrom (suc i) vs x)
+    go true = ap (setAt i (eqb v 1) (putFrom (suc i) vs x)) (add-zero i) ∙ set-same i (eqb v 1) (putFrom (suc i) vs x)
     go false = put-before (suc i) vs x (i + 0) (omega arith)
-put-at i (v ∷ vs) x (suc k) = go (ltb v 2) (rw there at (put-at (suc i) vs x k))
+put-at i (v ∷ vs) x (suc k) = go (ltb v 2) (rw (shift i k) at (put-at (suc i) vs x k))
   where
-    there : suc i + k ≡ i + suc k
-    there = omega arith
-
     want : Bool
     want = cond (ltb (getD vs k 2) 2) (eqb (getD vs k 2) 1) (x (i + suc k))
 
@@ -132,7 +128,7 @@ put-at i (v ∷ vs) x (suc k) = go (ltb v 2) (rw there at (put-at (suc i) vs x k
     go false r = r
 
 put-with : (fs : List ℕ) (x : ℕ → Bool) (k : ℕ) → putFrom 0 fs x k ≡ withFixings fs x k
-put-with fs x k = let same : 0 + k ≡ k = omega arith in rw same at (put-at 0 fs x k)
+put-with fs x k = rw (zero-add k) at (put-at 0 fs x k)
 
 pub record Fixed (i : ℕ) (vs : List ℕ) (g g′ : Graph) : Type 0 where
   pub same-n : g′ .n ≡ g .n

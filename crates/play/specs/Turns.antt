@@ -9,6 +9,7 @@ use lib.Seq.{drop-cons, drop-length}
 use Rattle.rules.specs.Back.{play, playAll}
 use Rattle.rules.specs.Record.{played, noStep}
 use Rattle.rules.specs.declared.Step.{Step}
+use Rattle.whole.specs.Counts.{less-one}
 
 -- what the steps of a record make of a plan
 abbrev pub playsBack : List Step → List ℕ → List ℕ
@@ -27,7 +28,7 @@ pub one-played : (ys : List Step) (k : ℕ) (x y r : List ℕ) → 0 < k → k �
 unfolding playAll
 one-played ys zero x y r h l e f = absurd (omega arith)
 one-played ys (suc j) x y r h l e f =
-    let p : suc j - 1 ≡ j = omega arith in
+    let p = less-one j in
     let q : j < length ys = omega arith in
     rw (p, drop-cons ys j noStep q) (cc)
 

@@ -2,7 +2,7 @@
 use Prim.Native.Nat.{ℕ, zero, suc, _+_, _*_, _-_, _%_, _^_, _<_}
 use mathlib.Core.Path.{_≡_, refl, ap, ap₂, sym, _∙_}
 use mathlib.Core.List.{List, [], _∷_, _++_}
-use mathlib.Core.Bool.{Bool, true, false, not, _&&_, _||_, or-false, and-true}
+use mathlib.Core.Bool.{Bool, false, not, _&&_, _||_, or-false, and-true}
 use native.Mathlib.Numerals.{add-one}
 use native.Mathlib.Omega.{arith}
 use lib.Bits.{bitAnd, bitOr, bitXor}
@@ -13,8 +13,9 @@ use borrow.Author.Tests.{eqb-true}
 use Rattle.whole.specs.Masks.{bit-or, bit-less, bit-shifted}
 use Rattle.whole.specs.Tests.{cases}
 use Rattle.whole.specs.Words.{mem, bit}
-use Rattle.whole.specs.Pigeon.{Apart, none, one, pigeon}
-use Rattle.whole.specs.Members.{apart-new, apart-join, mem-append, out-of-cons}
+use Rattle.whole.specs.Pigeon.{Apart, one, pigeon}
+use Rattle.whole.specs.Members.{apart-new, mem-append}
+use Rattle.whole.specs.Counts.{less-one}
 use Rattle.queue.specs.Items.{ringFrom}
 
 -- the place counts by its remainder alone
@@ -27,9 +28,7 @@ ring-mod (suc n) r h k e = rw (e, ring-mod n r (suc h) (suc k) (omega arith))
 ring-cons : (r : List ℕ) (h n : ℕ) → 0 < n → ringFrom r h n ≡ getD r (h % 64) 0 ∷ ringFrom r (h + 1) (n - 1)
 unfolding ringFrom
 ring-cons r h zero l = absurd (omega arith)
-ring-cons r h (suc n) l =
-    let e : suc n - 1 ≡ n = omega arith in
-    rw (add-one, e)
+ring-cons r h (suc n) l = rw (add-one, less-one n)
 
 pub ring-pop : (r : List ℕ) (h n : ℕ) → h < 64 → 0 < n → ringFrom r h n ≡ getD r h 0 ∷ ringFrom r ((h + 1) % 64) (n - 1)
 ring-pop r h n lh l =
@@ -58,14 +57,6 @@ ring-length r h (suc n) = ap suc (ring-length r (suc h) n)
 -- a decision that does not wait: fewer than 64 others do
 pub room : (d : ℕ) (xs : List ℕ) → Apart 64 xs → d < 64 → mem d xs ≡ false → length xs < 64
 room d xs a l h = let both : Apart 64 (d ∷ xs) = one l h a in omega (arith, pigeon 64 both)
-
--- it joins the back, and the decisions that wait are still different ones
-pub apart-more : (d : ℕ) (xs : List ℕ) → Apart 64 xs → d < 64 → mem d xs ≡ false → Apart 64 (xs ++ (d ∷ []))
-unfolding mem
-apart-more d xs a l h = apart-join a (one l refl none) (λ k m. out-of-cons k d [] (λ e. absurd (off k m e)) refl)
-  where
-    off : (k : ℕ) → mem k xs ≡ true → k ≡ d → ⊥
-    off k m e = let z : _≡_ {A = Bool} true false = sym m ∙ ap (λ (j : ℕ). mem j xs) e ∙ h in mathlib.Core.Bool.true≢false z
 
 -- the mask once the front has gone, and once d has joined
 module _ (w : ℕ) (xs : List ℕ) (d : ℕ) (l : d < 64) where

@@ -5,29 +5,28 @@ use mathlib.Core.List.{List, [], _∷_, _++_}
 use Prim.Native.Nat.{ℕ, zero, suc, _+_, _-_, _<_, _≤_}
 use native.Mathlib.Numerals.{add-one}
 use native.Mathlib.Omega.{arith}
+use native.Mathlib.Nat.{sub-eq-zero-of-le, sub-zero, sub-add-eq}
 use lib.ListN.{length, getD, take, set, drop, drop-of-length-le, length-set}
 use lib.Seq.{drop-cons, take-suc-set}
 use borrow.Author.Tests.{eq-eqb, ne-eqb}
 use Rattle.rules.specs.ReadText.{Read, got, bad, then, ender, more, empty, line}
+use Rattle.whole.specs.Counts.{one-left}
 
 -- a line of numbers: k = n − i are to come
 module _ {A : Type 0} (one : ℕ → List ℕ → Read A) where
   pub more-step : (xs : List A) (n i : ℕ) (s : List ℕ) → i < n
       → more one xs (n - i) s ≡ then (one (ender (n - i - 1)) s) (λ x r. more one (xs ++ (x ∷ [])) (n - (i + 1)) r)
   unfolding more
-  more-step xs n i s h =
-      let e : n - i ≡ suc (n - (i + 1)) = omega arith in
-      let d : n - i - 1 ≡ n - (i + 1) = omega arith in
-      rw (d, e)
+  more-step xs n i s h = rw (← sub-add-eq n i 1, one-left n i h)
 
   pub more-end : (xs : List A) (n i : ℕ) (s : List ℕ) → n ≤ i → more one xs (n - i) s ≡ got xs s
   unfolding more
-  more-end xs n i s h = let e : n - i ≡ 0 = omega arith in rw e
+  more-end xs n i s h = rw (sub-eq-zero-of-le h)
 
   pub line-start : (n : ℕ) (s : List ℕ) → (n ≡ 0 → ⊥) → line one n s ≡ more one [] (n - 0) s
   unfolding line
   line-start zero s h = absurd (h refl)
-  line-start (suc k) s h = let e : suc k - 0 ≡ suc k = omega arith in rw e
+  line-start (suc k) s h = rw (sub-zero (suc k))
 
   pub line-none : (n : ℕ) (s : List ℕ) → n ≡ 0 → line one n s ≡ empty s
   unfolding line

@@ -3,14 +3,16 @@
 use mathlib.Core.Path.{_≡_, refl}
 use mathlib.Core.Bool.{Bool, true, false, cond}
 use mathlib.Core.List.{List, [], _∷_, _++_}
-use Prim.Native.Nat.{ℕ, suc, _+_, _*_, _-_, _^_, _<_, _≤_}
+use Prim.Native.Nat.{ℕ, _+_, _*_, _-_, _^_, _<_, _≤_}
 use native.Mathlib.Numerals.{add-one}
 use native.Mathlib.Omega.{arith}
+use native.Mathlib.Nat.{sub-eq-zero-of-le}
 use lib.ListN.{length, getD, drop, drop-of-length-le}
 use lib.Seq.{drop-cons}
 use borrow.Author.Tests.{le-leb, lt-leb, lt-ltb, le-ltb, eq-eqb, ne-eqb}
 use lib.IntN.{ℤ, pos, negℤ}
 use Rattle.rules.specs.ReadText.{got, bad, turned, digit, digits, closed, number, number8, number32, weight, then, line, Head, head, Terms, terms, refused, given, objectiveOf, last, afterFixings, afterWeights, afterHead, input}
+use Rattle.whole.specs.Counts.{one-left}
 
 digit-yes : (b : ℕ) → 48 ≤ b → b ≤ 57 → digit b ≡ true
 digit-yes b h k = rw (le-leb 48 b h, le-leb b 57 k)
@@ -89,11 +91,11 @@ module _ (end : ℕ) (t : List ℕ) where
 pub terms-step : (is js : List ℕ) (ws : List ℤ) (k m : ℕ) (s : List ℕ) → m < k
     → terms is js ws (k - m) s ≡ then (number32 32 s) (λ i s. then (number32 32 s) (λ j s. then (weight 10 s) (λ w s. terms (is ++ (i ∷ [])) (js ++ (j ∷ [])) (ws ++ (w ∷ [])) (k - (m + 1)) s)))
 unfolding terms
-terms-step is js ws k m s h = let e : k - m ≡ suc (k - (m + 1)) = omega arith in rw e
+terms-step is js ws k m s h = rw (one-left k m h)
 
 pub terms-end : (is js : List ℕ) (ws : List ℤ) (k m : ℕ) (s : List ℕ) → k ≤ m → terms is js ws (k - m) s ≡ got (record { is = is; js = js; ws = ws }) s
 unfolding terms
-terms-end is js ws k m s h = let e : k - m ≡ 0 = omega arith in rw e
+terms-end is js ws k m s h = rw (sub-eq-zero-of-le h)
 
 -- the whole
 module _ (t : List ℕ) where

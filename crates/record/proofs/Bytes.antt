@@ -2,10 +2,10 @@
 -- Assumes nothing.
 use mathlib.Core.Path.{_≡_, refl, ap, _∙_}
 use mathlib.Core.Bool.{true, false}
-use mathlib.Core.List.{List, [], _∷_}
-use Prim.Native.Nat.{ℕ, zero, suc, _+_, _*_, _-_, _/_, _%_, _^_, _<_, _≤_}
+use mathlib.Core.List.{List}
+use Prim.Native.Nat.{ℕ, suc, _+_, _*_, _-_, _/_, _%_, _^_, _<_, _≤_}
 use native.Mathlib.Omega.{arith}
-use native.Mathlib.Nat.{pow-le-pow-right}
+use native.Mathlib.Nat.{pow-le-pow-right, sub-eq-zero-of-le, sub-self}
 use native.Mathlib.Numerals.{add-one}
 use lib.Dec.{eqb}
 use lib.ListN.{length, getD, take, drop, set, length-take, drop-of-length-le}
@@ -16,6 +16,7 @@ use mir.Syntax.{w64}
 use mir.Val.{toZ}
 use borrow.Author.Tests.{lt-ltb, le-ltb, ltb-true, eq-eqb, ne-eqb}
 use Rattle.whole.specs.Ints.{ints, abs-step}
+use Rattle.whole.specs.Counts.{one-left, next-place}
 use Rattle.roundtrip.specs.Bytes.{Bytes, bytes-front, from-below}
 use Rattle.rules.specs.Record.{little, fromLittle, twos, fromTwos, sums, check, checkRight}
 
@@ -23,18 +24,16 @@ use Rattle.rules.specs.Record.{little, fromLittle, twos, fromTwos, sums, check,
 pub little-next : (l : List ℕ) (at k n v : ℕ) → k < n → sets l (at + k) (little (n - k) v) ≡ sets (set l (at + k) (v % 256)) (at + (k + 1)) (little (n - (k + 1)) (v / 256))
 unfolding little
 little-next l at k n v h =
-    let e : n - k ≡ suc (n - (k + 1)) = omega arith in
-    let f : suc (at + k) ≡ at + (k + 1) = omega arith in
-    ap (λ (m : ℕ). sets l (at + k) (little m v)) e ∙ ap (λ (j : ℕ). sets (set l (at + k) (v % 256)) j (little (n - (k + 1)) (v / 256))) f
+    ap (λ (m : ℕ). sets l (at + k) (little m v)) (one-left n k h) ∙ ap (λ (j : ℕ). sets (set l (at + k) (v % 256)) j (little (n - (k + 1)) (v / 256))) (next-place at k)
 
 pub little-over : (l : List ℕ) (at k n v : ℕ) → n ≤ k → sets l (at + k) (little (n - k) v) ≡ l
 unfolding little
-little-over l at k n v h = let e : n - k ≡ 0 = omega arith in rw e
+little-over l at k n v h = rw (sub-eq-zero-of-le h)
 
 -- ---- reading, the highest byte first
 pub from-none : (b : List ℕ) (at n : ℕ) → 0 ≡ fromLittle (take (n - n) (drop (at + n) b))
 unfolding fromLittle
-from-none b at n = let e : n - n ≡ 0 = omega arith in rw e
+from-none b at n = rw (sub-self n)
 
 pub from-next : (b : List ℕ) (at k n v : ℕ) → 0 < k → k ≤ n → at + n ≤ length b → v ≡ fromLittle (take (n - k) (drop (at + k) b))
     → 256 * v + getD b (at + (k - 1)) 0 ≡ fromLittle (take (n - (k - 1)) (drop (at + (k - 1)) b))

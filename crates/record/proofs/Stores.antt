@@ -1,26 +1,22 @@
--- Bytes stored one after the other: `sets l i vs` is l with vs from place i on.
+-- Bytes stored by a loop.
 -- Assumes nothing.
 use mathlib.Core.Path.{_≡_, sym, ap, _∙_}
-use mathlib.Core.List.{List, [], _∷_, _++_, map, append-nil, map-append}
+use mathlib.Core.List.{List, _++_, map, append-nil, map-append}
 use Prim.Native.Nat.{ℕ, suc, _+_, _*_, _<_, _≤_}
 use native.Mathlib.Omega.{arith}
-use native.Mathlib.Nat.{add-zero}
+use native.Mathlib.Nat.{zero-add}
 use native.Mathlib.Numerals.{add-one}
 use lib.ListN.{length, getD, take, drop, set, drop-of-length-le}
 use lib.Seq.{sets, sets-eq, drop-cons, take-at, take-suc, take-suc-set}
 use Rattle.whole.specs.Words.{from}
 use Rattle.whole.specs.Those.{from-last}
+use Rattle.whole.specs.Stores.{sets-append}
+use Rattle.whole.specs.Counts.{next-place}
 use Rattle.rules.specs.Record.{noStep, stepBytes, stepsBytes}
 use Rattle.rules.specs.declared.Step.{Step}
 
 module _ {A : Type 0} where
-  pub sets-append : (xs : List A) (l : List A) (i : ℕ) (ys : List A) → sets l i (xs ++ ys) ≡ sets (sets l i xs) (i + length xs) ys
-  sets-append [] l i ys = rw add-zero
-  sets-append (x ∷ xs) l i ys =
-      let e : suc i + length xs ≡ i + suc (length xs) = omega arith in
-      sets-append xs (set l i x) (suc i) ys ∙ ap (λ (k : ℕ). sets (sets (set l i x) (suc i) xs) k ys) e
-
-  -- the same, at a place that is known by an equation
+  -- one after the other, at a place that is known by an equation
   pub sets-on : (xs : List A) (l : List A) (i j : ℕ) (ys : List A) → i + length xs ≡ j → sets (sets l i xs) j ys ≡ sets l i (xs ++ ys)
   sets-on xs l i j ys e = sym (sets-append xs l i ys ∙ ap (λ (k : ℕ). sets (sets l i xs) k ys) e)
 
@@ -37,8 +33,7 @@ module _ {A : Type 0} where
   -- one store of a loop that stores the elements of a list
   pub store-next : (l : List A) (i k : ℕ) (vs : List A) (d : A) → k < length vs → sets l (i + k) (drop k vs) ≡ sets (set l (i + k) (getD vs k d)) (i + (k + 1)) (drop (k + 1) vs)
   store-next l i k vs d h =
-      let e : suc (i + k) ≡ i + (k + 1) = omega arith in
-      ap (sets l (i + k)) (drop-cons vs k d h) ∙ rw (← add-one k) (ap (λ (j : ℕ). sets (set l (i + k) (getD vs k d)) j (drop (k + 1) vs)) e)
+      ap (sets l (i + k)) (drop-cons vs k d h) ∙ rw (← add-one k) (ap (λ (j : ℕ). sets (set l (i + k) (getD vs k d)) j (drop (k + 1) vs)) (next-place i k))
 
   pub store-over : (l : List A) (i k : ℕ) (vs : List A) → length vs ≤ k → sets l (i + k) (drop k vs) ≡ l
   store-over l i k vs h = rw (drop-of-length-le vs h)
@@ -50,8 +45,7 @@ module _ {A : Type 0} where
 -- one store of a loop that fills a list from the front by a rule
 pub fill-by : {A : Type 0} (f : ℕ → A) (l : List A) (k : ℕ) (v : A) → k < length l → take k l ≡ map f (from 0 k) → v ≡ f k → take (k + 1) (set l k v) ≡ map f (from 0 (k + 1))
 fill-by f l k v h e w =
-    let z : 0 + k ≡ k = omega arith in
-    rw (add-one, take-suc-set l k v h, from-last 0 k, map-append, e, w, z)
+    rw (add-one, take-suc-set l k v h, from-last 0 k, map-append, e, w, zero-add k)
 
 -- one step of a loop that stores steps
 pub steps-next : (l : List ℕ) (at k : ℕ) (ss : List Step) → k < length ss

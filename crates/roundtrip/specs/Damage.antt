@@ -1,19 +1,19 @@
 -- 01, "Changing one or two bytes of a valid block always breaks its check."
 -- Assumes nothing.
 use mathlib.Core.Path.{_≡_, refl, sym, ap, subst, _∙_}
-use mathlib.Core.Bool.{Bool, true, false, not, _&&_}
-use mathlib.Core.List.{List, [], _∷_}
-use Prim.Native.Nat.{ℕ, zero, suc, _+_, _*_, _-_, _/_, _%_, _<_, _≤_}
+use mathlib.Core.Bool.{Bool, true, false, not}
+use mathlib.Core.List.{List}
+use Prim.Native.Nat.{ℕ, zero, suc, _+_, _*_, _-_, _%_, _<_, _≤_}
 use native.Mathlib.Omega.{arith}
 use native.Mathlib.Decide.{ℕ-discrete, decLe}
-use native.Mathlib.Nat.{mul-le-mul, mul-pos, mul-mod-left, mul-add}
+use native.Mathlib.Nat.{mul-le-mul, mul-pos, mul-mod-left, mul-add, add-sub-of-le}
 use lib.Dec.{eqb}
 use lib.ListN.{length, getD, set, take, drop, length-set}
-use lib.Seq.{set-getD, length-take-le, getD-take, set-set, set-comm, getD-set-other, take-set-le, take-set-lt, drop-set-lt, drop-set-add}
-use borrow.Author.Tests.{eqb-true, ne-eqb, eqb-false, not-true}
+use lib.Seq.{set-getD, length-take-le, set-set, set-comm, getD-set-other, take-set-le, take-set-lt, drop-set-lt, drop-set-add}
+use borrow.Author.Tests.{eqb-true, eqb-false, not-true}
 use Rattle.whole.specs.Words.{from, all}
 use Rattle.whole.specs.Tests.{and-true}
-use Rattle.rules.specs.Record.{fromLittle, Sums, check, checkRight, sealed}
+use Rattle.rules.specs.Record.{fromLittle, check, checkRight, sealed}
 use Rattle.roundtrip.specs.Bytes.{Bytes, bytes-front, bytes-set}
 use Rattle.roundtrip.specs.RoundTrip.{right-sealed}
 use Rattle.roundtrip.specs.Sums.{total, weighted, check-first, check-second, total-set, weighted-set}
@@ -53,10 +53,11 @@ seen k p q w v c hk lk hp hq e f = by (ℕ-discrete q p) (decLe p q)
     by : Dec (q ≡ p) → Dec (p ≤ q) → q ≡ p
     by (yes s) l = s
     by (no s) (yes l) =
-        let d : k * q ≡ k * p + k * (q - p) = let i : q ≡ p + (q - p) = omega arith in ap (λ (x : ℕ). k * x) i ∙ mul-add k p (q - p) in
+        let d : k * q ≡ k * p + k * (q - p) = ap (λ (x : ℕ). k * x) (sym (add-sub-of-le l)) ∙ mul-add k p (q - p) in
         absurd (no-multiple k (q - p) hk lk (omega arith) (omega arith) (omega arith))
     by (no s) (no l) =
-        let d : k * p ≡ k * q + k * (p - q) = let i : p ≡ q + (p - q) = omega arith in ap (λ (x : ℕ). k * x) i ∙ mul-add k q (p - q) in
+        let g : q ≤ p = omega arith in
+        let d : k * p ≡ k * q + k * (p - q) = ap (λ (x : ℕ). k * x) (sym (add-sub-of-le g)) ∙ mul-add k q (p - q) in
         absurd (no-multiple k (p - q) hk lk (omega arith) (omega arith) (omega arith))
 
 -- two changes that s1 does not see weigh in s2 as one of them, by the places between

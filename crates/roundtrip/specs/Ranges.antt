@@ -5,7 +5,8 @@ use mathlib.Core.Bool.{true}
 use mathlib.Core.List.{List, [], _∷_, _++_, map, append-assoc}
 use Prim.Native.Nat.{ℕ, zero, suc, _+_, _*_, _≤_}
 use native.Mathlib.Omega.{arith}
-use native.Mathlib.Nat.{add-zero}
+use native.Mathlib.Nat.{add-zero, add-suc}
+use native.Mathlib.Numerals.{add-one}
 use lib.Dec.{eqb}
 use lib.ListN.{length, getD, take, drop, replicate}
 use lib.Seq.{drop-cons, drop-drop, getD-drop, take-add}
@@ -18,9 +19,7 @@ use Rattle.rules.specs.declared.Step.{Step}
 -- what stands at a place and after it
 pub drop-at-place : (l : List ℕ) (a x : ℕ) (r : List ℕ) → drop a l ≡ x ∷ r → (getD l a 0 ≡ x) × (drop (suc a) l ≡ r)
 drop-at-place l a x r e =
-    let z : a + 0 ≡ a = omega arith in
-    let o : a + 1 ≡ suc a = omega arith in
-    (ap (λ (i : ℕ). getD l i 0) (sym z) ∙ sym (getD-drop a l 0 0) ∙ ap (λ (m : List ℕ). getD m 0 0) e, ap (λ (i : ℕ). drop i l) (sym o) ∙ sym (drop-drop 1 a l) ∙ ap (drop 1) e)
+    (ap (λ (i : ℕ). getD l i 0) (sym (add-zero a)) ∙ sym (getD-drop a l 0 0) ∙ ap (λ (m : List ℕ). getD m 0 0) e, ap (λ (i : ℕ). drop i l) (sym (add-one a)) ∙ sym (drop-drop 1 a l) ∙ ap (drop 1) e)
 
 -- ---- zeros
 pub zeros-read : (c a : ℕ) (l r : List ℕ) → drop a l ≡ replicate c 0 ++ r → all (λ k. eqb (getD l k 0) 0) (from a c) ≡ true
@@ -63,14 +62,12 @@ pub stretch : (n a i : ℕ) (l : List ℕ) → i + a + n ≤ length l → take n
 unfolding from
 stretch zero a i l h = refl
 stretch (suc n) a i l h =
-    let e : suc (i + a) ≡ i + suc a = omega arith in
-    rw (drop-cons l (i + a) 0 (omega arith)) (ap (λ (r : List ℕ). getD l (i + a) 0 ∷ r) (ap (λ (k : ℕ). take n (drop k l)) e ∙ stretch n (suc a) i l (omega arith)))
+    rw (drop-cons l (i + a) 0 (omega arith)) (ap (λ (r : List ℕ). getD l (i + a) 0 ∷ r) (ap (λ (k : ℕ). take n (drop k l)) (sym (add-suc i a)) ∙ stretch n (suc a) i l (omega arith)))
 
 sixth : (l : List ℕ) (i : ℕ) → i + 6 ≤ length l → take 6 (drop i l) ≡ stepBytes (stepIn l i)
 unfolding from
 sixth l i h =
-    let z : i + 0 ≡ i = omega arith in
-    rw z at (stretch 6 0 i l (omega arith))
+    rw (add-zero i) at (stretch 6 0 i l (omega arith))
 
 pub steps-written : (c k at : ℕ) (l : List ℕ) → at + 6 * (k + c) ≤ length l → stepsBytes (map (stepsFrom l at) (from k c)) ≡ take (6 * c) (drop (at + 6 * k) l)
 unfolding stepsBytes from

@@ -1,23 +1,19 @@
 -- A run's steps in a record, and back.
 -- Assumes nothing.
 use mathlib.Core.Path.{_≡_, refl, ap, _∙_}
-use mathlib.Core.List.{List, [], _∷_, _++_, map}
+use mathlib.Core.List.{List, [], _∷_, map}
 use Prim.Native.Nat.{ℕ, _-_, _≤_}
 use native.Mathlib.Omega.{arith}
 use lib.ListN.{length, getD, take, replicate, length-map}
 use lib.Seq.{take-at}
 use lib.IntN.{ℤ}
 use Rattle.rules.specs.Eliminate as rule
-use Rattle.rules.specs.Record.{hold, holdAll, played, recordOf, stepsOf, statesOf, noStep}
+use Rattle.rules.specs.Record.{hold, holdAll, played, recordOf, stepsOf, noStep}
 
 -- each step looks at no more than three neighbours
 abbrev pub Few : List rule.Step → Type 0
 Few [] = Unit
 Few (s ∷ ss) = (length (s .near) ≤ 3) × Few ss
-
-pub few-append : (ss ts : List rule.Step) → Few ss → Few ts → Few (ss ++ ts)
-few-append [] ts f g = g
-few-append (s ∷ ss) ts f g = (f .0, few-append ss ts (f .1) g)
 
 three : (l : List ℕ) → length l ≤ 3 → take (length l) (getD l 0 0 ∷ getD l 1 0 ∷ getD l 2 0 ∷ []) ≡ l
 three [] h = refl
@@ -41,7 +37,3 @@ all-held ss f = ap (map played) (take-at (map hold ss) (replicate (64 - length s
 pub steps-of-record : (n : ℕ) (c : ℤ) (states : List ℕ) (steps : List rule.Step) → Few steps → stepsOf (recordOf n c states steps) ≡ steps
 unfolding stepsOf
 steps-of-record n c states steps f = all-held steps f
-
-pub states-of-record : (n : ℕ) (c : ℤ) (states : List ℕ) (steps : List rule.Step) → statesOf (recordOf n c states steps) ≡ take n states
-unfolding statesOf
-states-of-record n c states steps = refl

@@ -2,12 +2,11 @@
 -- Assumes nothing.
 use mathlib.Core.Path.{_≡_, refl, sym, ap, _∙_, subst}
 use mathlib.Core.Bool.{Bool, true, false, not}
-use mathlib.Core.List.{List, [], _∷_, _++_}
-use mathlib.Core.Logic.{_≢_}
+use mathlib.Core.List.{List, [], _∷_}
 use Prim.Native.Nat.{ℕ, _+_, _-_, _<_, _≤_}
 use native.Mathlib.Omega.{arith}
-use native.Mathlib.Nat.{sub-zero}
-use lib.ListN.{length, set, take, length-append}
+use native.Mathlib.Nat.{sub-zero, sub-eq-zero-of-le}
+use lib.ListN.{length, set, length-append}
 use lib.IntN.{ℤ}
 use Rattle.rules.specs.Graph.{Graph}
 use Rattle.rules.specs.Fixing.{start}
@@ -28,7 +27,7 @@ use Rattle.state.specs.Holds.{Lent, lent, Holds}
 use Rattle.state.specs.declared.State.{State}
 use Rattle.take.specs.Ready.{Went, Takes}
 use Rattle.take.specs.declared.Taken.{Taken}
-use Rattle.run.specs.Going.{Going, Started, Along, Known, Ends}
+use Rattle.run.specs.Going.{Started, Along, Known, Ends}
 use Rattle.run.specs.TurnLaws.{due-take}
 use Rattle.run.specs.declared.Come.{Come}
 use Rattle.run.specs.declared.Ended.{Ended}
@@ -119,10 +118,7 @@ module _ (budget sw : ℕ) (E : run.Ended) (s : State) (made : Steps) (u : ℕ) 
   along-cut r b k = by r refl
     where
       spent : E ≡ run.run 0 sw S
-      spent = a .same ∙ ap (λ (c : ℕ). run.run c sw S) none
-        where
-          none : budget - u ≡ 0
-          none = omega arith
+      spent = a .same ∙ ap (λ (c : ℕ). run.run c sw S) (sub-eq-zero-of-le b)
 
       by : (t : Bool) → r ≡ t → Ends E (record { complete = not t; state = s; steps = made }) w
       by false q = along-over (k .no q)

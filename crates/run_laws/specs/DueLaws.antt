@@ -11,6 +11,7 @@ use Rattle.rules.specs.Fixing.{start}
 use Rattle.rules.specs.Outcome.{units}
 use Rattle.rules.specs.Run.{State, way, go, takeFront, blocked, Next, over, due, dueBlock, dueAt, next, Ended, onward, run, begin, ended}
 use Rattle.meaning.specs.RunLaws.{Used, run-used}
+use Rattle.whole.specs.Counts.{one-left}
 
 -- "a take or a found block is due"
 pub data Due (sw : ℕ) (s : State) : State → Type 0 where
@@ -46,9 +47,7 @@ run-due b sw s t e = ap (λ (x : Next). onward x s (λ u. run b sw u)) e
 
 -- the same with u units used of a budget, as a loop that counts them has it
 pub run-turn : (budget u sw : ℕ) (s t : State) → u < budget → next sw s ≡ due t → run (budget - u) sw s ≡ run (budget - (u + 1)) sw t
-run-turn budget u sw s t l e =
-    let one : budget - u ≡ suc (budget - (u + 1)) = omega arith in
-    ap (λ (b : ℕ). run b sw s) one ∙ run-due (budget - (u + 1)) sw s t e
+run-turn budget u sw s t l e = ap (λ (b : ℕ). run b sw s) (one-left budget u l) ∙ run-due (budget - (u + 1)) sw s t e
 
 pub run-cut : (sw : ℕ) (s t : State) → next sw s ≡ due t → run 0 sw s ≡ record { state = s; complete = false }
 unfolding run

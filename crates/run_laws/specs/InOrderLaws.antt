@@ -8,7 +8,7 @@ use native.Mathlib.Omega.{arith}
 use lib.ListN.{length, length-append}
 use Rattle.whole.specs.Words.{oneIf}
 use Rattle.whole.specs.Pigeon.{Apart, pigeon}
-use Rattle.whole.specs.Members.{apart-tail}
+use Rattle.whole.specs.Members.{apart-tail, apart-wider}
 use Rattle.rules.specs.Objective.{Objective}
 use Rattle.rules.specs.Graph.{Graph, neighbours}
 use Rattle.rules.specs.Fixing.{start}
@@ -19,7 +19,6 @@ use Rattle.rules.specs.DominantEdge.{weak, contract, contractStep}
 use Rattle.rules.specs.SmallBlock.{eliminateBlock, blockSteps}
 use Rattle.rules.specs.Run.{Tally, tally, plus, State, waiting, Way, inactive, low, into, three, failed, idle, way, join, reduced, skipped, go, takeFront, blocked, due, next, run, begin, ended}
 use Rattle.meaning.specs.Growth.{in-nbrs}
-use Rattle.meaning.specs.Neat.{wider}
 use Rattle.meaning.specs.Stands.{Fine}
 use Rattle.meaning.specs.Found.{found-block}
 use Rattle.accepted.specs.Accept.{Fit}
@@ -150,7 +149,7 @@ module _ (g : Graph) where
       record {
         n = few;
         queue = omega (arith, pigeon (g .n) (o .queue));
-        waiting = wider (omega arith) (o .queue);
+        waiting = apart-wider (omega arith) (o .queue);
         steps = omega arith;
         eliminated = omega (arith, c .steps);
         three = omega (arith, c .steps, c .three);

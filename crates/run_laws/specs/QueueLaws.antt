@@ -5,9 +5,9 @@ use mathlib.Core.Bool.{Bool, true, false, cond, not, _&&_}
 use mathlib.Core.List.{List, [], _∷_, _++_}
 use Prim.Native.Nat.{ℕ, _<_}
 use Rattle.whole.specs.Words.{mem}
-use Rattle.whole.specs.Pigeon.{Apart, none, one}
+use Rattle.whole.specs.Pigeon.{Apart}
 use Rattle.whole.specs.Tests.{and-true, off-not}
-use Rattle.whole.specs.Members.{in-head, in-tail, out-of-cons, differ, apart-join, apart-those, apart-upto}
+use Rattle.whole.specs.Members.{in-head, in-tail, apart-more, apart-those, apart-upto}
 use Rattle.rules.specs.Graph.{Graph, active, actives}
 use Rattle.rules.specs.Run.{eligible, waiting, join}
 
@@ -20,11 +20,6 @@ pub waiting-apart : (sw : ℕ) (g : Graph) → Apart (g .n) (waiting sw g)
 unfolding waiting
 waiting-apart sw g = apart-those (λ i. eligible sw g i) (actives-apart g)
 
--- one that is not waiting joins the back
-pub push-apart : {n : ℕ} {q : List ℕ} (j : ℕ) → Apart n q → j < n → mem j q ≡ false → Apart n (q ++ j ∷ [])
-unfolding mem
-push-apart {q = q} j a l m = apart-join a (one l refl none) (λ k h. out-of-cons k j [] (differ q h m) refl)
-
 -- "join the back if active, not waiting and now eligible"
 pub join-apart : {n : ℕ} (sw : ℕ) (g : Graph) (js q : List ℕ) → ((k : ℕ) → mem k js ≡ true → k < n) → Apart n q → Apart n (join sw g js q)
 unfolding join
@@ -33,5 +28,5 @@ join-apart {n} sw g (j ∷ js) q h a =
     join-apart sw g js (cond (active g j && not (mem j q) && eligible sw g j) (q ++ j ∷ []) q) (λ k m. h k (in-tail k j js m)) (go (active g j && not (mem j q) && eligible sw g j) refl)
   where
     go : (c : Bool) → (active g j && not (mem j q) && eligible sw g j) ≡ c → Apart n (cond c (q ++ j ∷ []) q)
-    go true e = push-apart j a (h j (in-head j js)) (off-not (mem j q) (and-true (active g j) (not (mem j q)) (and-true (active g j && not (mem j q)) (eligible sw g j) e .0) .1))
+    go true e = apart-more j a (h j (in-head j js)) (off-not (mem j q) (and-true (active g j) (not (mem j q)) (and-true (active g j && not (mem j q)) (eligible sw g j) e .0) .1))
     go false e = a

@@ -70,9 +70,9 @@ module _ (a : ℤ) (ws : List ℤ) (h : ∣ a ∣ ≤ 1099511627776) (e : Small 
     pub hi-size : s +ℤ positives rs ≡ a +ℤ positives ws → ∣ s ∣ ≤ 282574488338432
     hi-size q = omega (arith, part-size s (positives rs) (a +ℤ positives ws) q (add-size a (positives ws) h (positives-size ws e)) (positives-size rs r))
 
--- ---- a contraction: a place that has gained nothing yet gains one weight
-pub gain-size : {b c : ℕ} {before : List ℤ} (now : List ℤ) (k : ℕ) (v : ℤ) → Small b before → getD now k (pos 0) ≡ getD before k (pos 0) → ∣ v ∣ ≤ c → ∣ getD now k (pos 0) +ℤ v ∣ ≤ b + c
-gain-size now k v s e h = add-size (getD now k (pos 0)) v (omega (arith, ap ∣_∣ e, s .each k)) h
+-- ---- a reduction's update: each place gains once, so what it has is still what it had before
+pub gain-size : {b c : ℕ} (before now : List ℤ) (k : ℕ) (v : ℤ) → ∣ getD before k (pos 0) ∣ ≤ b → getD now k (pos 0) ≡ getD before k (pos 0) → ∣ v ∣ ≤ c → ∣ getD now k (pos 0) +ℤ v ∣ ≤ b + c
+gain-size before now k v s e h = add-size (getD now k (pos 0)) v (omega (arith, ap ∣_∣ e, s)) h
 
 -- ---- the Möbius transform: each bit's pass at most doubles
 pub pass-size : {b : ℕ} (k : ℕ) (t : ℕ → ℤ) → ((m : ℕ) → ∣ t m ∣ ≤ b) → (m : ℕ) → ∣ pass k t m ∣ ≤ b + b

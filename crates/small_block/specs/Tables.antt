@@ -7,6 +7,7 @@ use mathlib.Core.Logic.{_≢_}
 use Prim.Native.Nat.{ℕ, _+_, _*_, _-_, _^_, _<_, _≤_}
 use native.Mathlib.Omega.{arith}
 use native.Mathlib.Decide.{decLt, ℕ-discrete}
+use native.Mathlib.Nat.{add-sub-of-le}
 use lib.Dec.{eqb, ltb}
 use lib.Bits.{bitOr, bitAnd, bitXor}
 use lib.ListN.{length, getD, take, set, List·getD-eq-default}
@@ -77,12 +78,9 @@ pub marks-list : (p : ℕ → Bool) (n m : ℕ) → n ≤ 64 → Marks p n m →
 unfolding these
 marks-list p n m l h =
     those-ext (λ k. bit m k) (λ k. ltb k n && p k) (upto 64) (λ k t. h k (upto-in k 64 t))
-    ∙ ap (λ (c : ℕ). those (λ k. ltb k n && p k) (upto c)) whole
+    ∙ ap (λ (c : ℕ). those (λ k. ltb k n && p k) (upto c)) (sym (add-sub-of-le l))
     ∙ those-upto (λ k. ltb k n && p k) n (64 - n) (λ k a t. ap (λ (b : Bool). b && p k) (le-ltb k n a))
     ∙ those-ext (λ k. ltb k n && p k) p (upto n) (λ k t. ap (λ (b : Bool). b && p k) (lt-ltb k n (upto-in k n t)))
-  where
-    whole : 64 ≡ n + (64 - n)
-    whole = omega arith
 
 -- the masks of all decisions list their neighbours
 abbrev pub joinedBy : List ℤ → ℕ → ℕ → Bool

@@ -5,12 +5,13 @@ use mathlib.Core.Bool.{Bool, true, false, cond}
 use mathlib.Core.List.{List, [], _∷_}
 use Prim.Native.Nat.{ℕ, zero, suc, _+_, _*_, _<_, _≤_, _^_}
 use native.Mathlib.Omega.{arith}
-use native.Mathlib.Nat.{pow-suc}
+use native.Mathlib.Nat.{pow-suc, add-zero, zero-add}
 use lib.Dec.{ltb}
 use borrow.Author.Tests.{lt-ltb}
 use Rattle.whole.specs.Words.{from, upto, mem, those, all, oneIf, bitsFrom}
 use Rattle.whole.specs.Tests.{and-true, and-both}
 use Rattle.whole.specs.Members.{in-head, in-tail}
+use Rattle.whole.specs.Counts.{shift}
 use Rattle.rules.specs.Record.{ascending}
 
 -- ---- every one passes
@@ -55,14 +56,13 @@ ascending-upto p n = ascending-those p (upto n) (ascending-from 0 n)
 -- ---- c bits from bit b on are below the bit after them
 bits-room : (f : ℕ → Bool) (b c : ℕ) → bitsFrom f b c + 2 ^ b ≤ 2 ^ (b + c)
 unfolding bitsFrom
-bits-room f b zero = let e : b + 0 ≡ b = omega arith in rw e (omega arith)
+bits-room f b zero = rw (add-zero b) (omega arith)
 bits-room f b (suc c) =
-    let e : b + suc c ≡ suc b + c = omega arith in
-    rw e (go (f b) (bits-room f (suc b) c))
+    rw (← shift b c) (go (f b) (bits-room f (suc b) c))
   where
     go : (t : Bool) → bitsFrom f (suc b) c + 2 ^ suc b ≤ 2 ^ (suc b + c) → oneIf t * 2 ^ b + bitsFrom f (suc b) c + 2 ^ b ≤ 2 ^ (suc b + c)
     go true h = omega (arith, rw pow-suc at h)
     go false h = omega (arith, rw pow-suc at h)
 
 pub bits-below : (f : ℕ → Bool) (c : ℕ) → bitsFrom f 0 c < 2 ^ c
-bits-below f c = let e : 0 + c ≡ c = omega arith in let h : bitsFrom f 0 c + 2 ^ 0 ≤ 2 ^ c = rw e at (bits-room f 0 c) in omega arith
+bits-below f c = let h : bitsFrom f 0 c + 2 ^ 0 ≤ 2 ^ c = rw (zero-add c) at (bits-room f 0 c) in omega arith

@@ -1,10 +1,10 @@
--- Comparisons: a test's two outcomes, the lesser of two numbers, the lesser of a number and 0, the test for 0.
+-- Comparisons: a test's two outcomes, the lesser of a number and 0, the test for 0.
 -- Assumes nothing.
 use mathlib.Core.Path.{_≡_, refl, ap}
 use mathlib.Core.Bool.{Bool, true, false, cond, not}
 use Prim.Native.Nat.{zero, suc, _^_, _<_, _≤_}
 use native.Mathlib.Omega.{arith}
-use lib.IntN.{ℤ, pos, negsuc, _+ℤ_}
+use lib.IntN.{ℤ, pos, negsuc}
 use lib.Signed.{ltZ, mag, _≤ℤ_}
 use mir.Syntax.{w64}
 use mir.Val.{ofZ}
@@ -22,28 +22,6 @@ lt-ind a b S f g = go (ltZ a b) refl
     go true e = f e
     go false e = g e
 
-abbrev pub minZ : ℤ → ℤ → ℤ
-minZ a b = cond (ltZ a b) a b
-
-pub minZ-l : (a b : ℤ) → minZ a b ≤ℤ a
-minZ-l a b = lt-ind a b (λ t. cond t a b ≤ℤ a) (λ e. simp ints (omega arith)) (λ e. simp ints (omega zarith))
-
-pub minZ-r : (a b : ℤ) → minZ a b ≤ℤ b
-minZ-r a b = lt-ind a b (λ t. cond t a b ≤ℤ b) (λ e. simp ints (omega zarith)) (λ e. simp ints (omega arith))
-
-pub minZ-glb : (a b c : ℤ) → c ≤ℤ a → c ≤ℤ b → c ≤ℤ minZ a b
-minZ-glb a b c h k = lt-ind a b (λ t. c ≤ℤ cond t a b) (λ e. h) (λ e. k)
-
-pub minZ-comm : (a b : ℤ) → minZ a b ≡ minZ b a
-minZ-comm a b = lt-ind a b (λ t. cond t a b ≡ minZ b a)
-    (λ e. lt-ind b a (λ t. a ≡ cond t b a) (λ d. simp ints (omega zarith)) (λ d. refl))
-    (λ e. lt-ind b a (λ t. b ≡ cond t b a) (λ d. refl) (λ d. simp ints (omega zarith)))
-
-pub minZ-add : (a b c : ℤ) → minZ (a +ℤ c) (b +ℤ c) ≡ minZ a b +ℤ c
-minZ-add a b c = lt-ind a b (λ t. minZ (a +ℤ c) (b +ℤ c) ≡ cond t a b +ℤ c)
-    (λ e. lt-ind (a +ℤ c) (b +ℤ c) (λ t. cond t (a +ℤ c) (b +ℤ c) ≡ a +ℤ c) (λ d. refl) (λ d. simp ints (omega (zarith, simp ints at d))))
-    (λ e. lt-ind (a +ℤ c) (b +ℤ c) (λ t. cond t (a +ℤ c) (b +ℤ c) ≡ b +ℤ c) (λ d. simp ints (omega (zarith, simp ints at d))) (λ d. refl))
-
 pub below0-abs : (z : ℤ) → ∣ below0 z ∣ ≤ ∣ z ∣
 below0-abs z = lt-ind z (pos 0) (λ t. ∣ cond t z (pos 0) ∣ ≤ ∣ z ∣) (λ e. omega arith) (λ e. omega arith)
 
@@ -60,12 +38,8 @@ pub zero-is : (z : ℤ) → mag z < 2 ^ 63 → ofZ w64 z ≡ 0 → not (isZeroZ 
 zero-is (pos n) f h = rw (eq-eqb n 0 h)
 zero-is (negsuc n) f h = absurd (omega arith)
 
--- the order's laws, each a call of the tactic: write the call rather than cite them
 pub ≤ℤ-trans : {a b c : ℤ} → a ≤ℤ b → b ≤ℤ c → a ≤ℤ c
 ≤ℤ-trans {a} {b} {c} h k = simp ints (omega zarith)
-
-pub ≤ℤ-antisym : {a b : ℤ} → a ≤ℤ b → b ≤ℤ a → a ≡ b
-≤ℤ-antisym {a} {b} h k = simp ints (omega zarith)
 
 pub zero-of : (z : ℤ) → isZeroZ z ≡ true → z ≡ pos 0
 zero-of (pos n) h = ap pos (eqb-true n 0 h)

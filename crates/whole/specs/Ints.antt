@@ -4,8 +4,8 @@
 --     zarith          `arith`, with rules by which `omega` reads a hypothesis `a ≤ℤ b`, `a <ℤ b`, `a ≡ b`, `ltZ a b ≡ true`, .. between atoms as it stands
 -- Assumes nothing.
 use mathlib.Core.Path.{_≡_, refl, sym, _∙_, ap, subst}
-use mathlib.Core.Logic.{_↔_, _≢_}
-use mathlib.Core.Bool.{Bool, true, false, not}
+use mathlib.Core.Logic.{_↔_}
+use mathlib.Core.Bool.{Bool, true, false}
 use mathlib.Core.List.{List, [], _∷_}
 use Prim.Native.Nat.{ℕ, _+_, _*_, _-_, _<_, _≤_, _^_}
 use native.Mathlib.Omega.{arith}
@@ -160,13 +160,6 @@ is-true false h = absurd h
 of-true : (t : Bool) → t ≡ true → T t
 of-true t e = subst T (sym e) tt
 
-is-false : (t : Bool) → T (not t) → t ≡ false
-is-false true h = absurd h
-is-false false h = refl
-
-of-false : (t : Bool) → t ≡ false → T (not t)
-of-false t e = subst (λ (u : Bool). T (not u)) (sym e) tt
-
 pub s-ltt : (a b : ℤ) → (ltZ a b ≡ true) ↔ Bal les (b ∷ negℤ a ∷ []) 0 1
 s-ltt a b = ((λ h. record { bal = omega (arith, r-ltt a b h, P-neg a, N-neg a) }), (λ h. g-ltt a b (omega (arith, h .bal, P-neg a, N-neg a))))
 
@@ -246,17 +239,6 @@ pub N-zero : (z : ℤ) → N z ≤ P z → N z ≡ 0
 N-zero (pos a) h = refl
 N-zero (negsuc a) h = absurd (omega arith)
 
--- |z| as a number of ℤ, where the sign is known: `simp ints at (abs-nn z h)` is the fact for `omega`, with `natAbs z` an atom
-pub abs-nn : (z : ℤ) → T (nonNeg z) → pos (natAbs z) ≡ z
-abs-nn (pos n) h = refl
-abs-nn (negsuc n) h = absurd h
-
-pub abs-lt : (z : ℤ) → ltZ z (pos 0) ≡ true → pos (natAbs z) ≡ negℤ z
-abs-lt z h = (s-eq (pos (natAbs z)) (negℤ z)) .1 (simp (b-nneg, b-at, b-eqs) (omega (arith, natAbs-parts z, P-zero z (omega (arith, r-ltt z (pos 0) h)))))
-
-pub abs-ge : (z : ℤ) → ltZ z (pos 0) ≡ false → pos (natAbs z) ≡ z
-abs-ge z h = (s-eq (pos (natAbs z)) z) .1 (simp (b-neg, b-at, b-eqs) (omega (arith, natAbs-parts z, N-zero z (omega (arith, r-ltf z (pos 0) h)))))
-
 -- |x| of a negative x as the code has it, with no overflow at the least number: -(x + 1), and one more
 pub abs-step : (x : ℤ) → ltZ x (pos 0) ≡ true → natAbs (pos 0 -ℤ (x +ℤ pos 1)) + 1 ≡ natAbs x
 abs-step x h = omega (arith, natAbs-parts x, natAbs-parts (pos 0 -ℤ (x +ℤ pos 1)), add-parts x (pos 1), add-parts (pos 0) (negℤ (x +ℤ pos 1)), P-neg (x +ℤ pos 1), N-neg (x +ℤ pos 1), r-ltt x (pos 0) h, P-zero x (omega (arith, r-ltt x (pos 0) h)), N-zero (pos 0 -ℤ (x +ℤ pos 1)) (omega (arith, add-parts x (pos 1), add-parts (pos 0) (negℤ (x +ℤ pos 1)), P-neg (x +ℤ pos 1), N-neg (x +ℤ pos 1), r-ltt x (pos 0) h)))
@@ -300,9 +282,5 @@ rd h = toZ-ofZ h
 -- two numbers with the same bits, as `a == b` tells of two signed numbers
 pub bits-eq : {w : Width} {a b : ℤ} → SFits w a → SFits w b → ofZ w a ≡ ofZ w b → a ≡ b
 bits-eq {w} f g e = sym (toZ-ofZ f) ∙ ap (toZ w) e ∙ toZ-ofZ g
-
--- two numbers that differ: `omega (zarith, ne-parts h)`. (Of `a != b` on two signed numbers the code tells that the bits differ, n: `ne-parts (λ e. n (ap (ofZ w64) e))`)
-pub ne-parts : {a b : ℤ} → (a ≡ b → ⊥) → P a + N b ≢ P b + N a
-ne-parts {a} {b} n e = n (ext a b e)
 
 pub ruleset zarith = (arith, r-eq, r-le, r-lt, r-ltt, r-ltf, r-let, r-lef, r-rd)

@@ -4,10 +4,10 @@ pub mod Ints
 pub mod Fits
 pub mod Cmp
 pub mod Sum
-pub mod Bit
-pub mod Quad
-pub mod Calls
 pub mod Tests
+pub mod Counts
+pub mod Cells
+pub mod Stores
 pub mod Lists
 pub mod Different
 pub mod Members

@@ -4,12 +4,13 @@ use Prim.Native.Nat.{ℕ, zero, suc, _+_, _-_, _<_, _≤_}
 use mathlib.Core.Path.{_≡_, refl, ap, ap₂, sym, _∙_}
 use mathlib.Core.List.{List, [], _∷_, _++_, map, append-nil}
 use native.Mathlib.Numerals.{add-one}
-use native.Mathlib.Nat.{add-zero}
+use native.Mathlib.Nat.{add-zero, zero-add, sub-zero, suc-sub-suc}
 use native.Mathlib.Omega.{arith}
 use lib.ListN.{length, getD, set, drop, replicate, length-append, length-map, List·getD-append}
 use native.Mathlib.Decide.{ℕ-discrete}
 use lib.Seq.{drop-cons, drop-length, set-at, append-snoc, getD-at, getD-set-same, getD-set-other}
 use Rattle.whole.specs.Words.{tab, from}
+use Rattle.whole.specs.Counts.{shift}
 
 module _ {A : Type 0} (f : ℕ → A) where
   pub length-tab : (k : ℕ) → length (tab f k) ≡ k
@@ -38,18 +39,16 @@ module _ {A : Type 0} (f : ℕ → A) where
   tab-from : (a c : ℕ) → tab f a ++ map f (from a c) ≡ tab f (a + c)
   unfolding tab from
   tab-from a zero = rw add-zero (append-nil _)
-  tab-from a (suc c) =
-      let e : suc a + c ≡ a + suc c = omega arith in
-      sym (append-snoc (tab f a) (f a) (map f (from (suc a) c))) ∙ tab-from (suc a) c ∙ ap (tab f) e
+  tab-from a (suc c) = sym (append-snoc (tab f a) (f a) (map f (from (suc a) c))) ∙ tab-from (suc a) c ∙ ap (tab f) (shift a c)
 
   pub tab-map : (n : ℕ) → map f (from 0 n) ≡ tab f n
   unfolding tab
-  tab-map n = let e : 0 + n ≡ n = omega arith in tab-from 0 n ∙ ap (tab f) e
+  tab-map n = tab-from 0 n ∙ ap (tab f) (zero-add n)
 
 pub drop-replicate : {A : Type 0} (n m : ℕ) (a : A) → n ≤ m → drop n (replicate m a) ≡ replicate (m - n) a
-drop-replicate zero m a h = let e : m ≡ m - 0 = omega arith in ap (λ (k : ℕ). replicate k a) e
+drop-replicate zero m a h = ap (λ (k : ℕ). replicate k a) (sym (sub-zero m))
 drop-replicate (suc n) zero a h = absurd (omega arith)
-drop-replicate (suc n) (suc m) a h = let e : m - n ≡ suc m - suc n = omega arith in drop-replicate n m a (omega arith) ∙ ap (λ (k : ℕ). replicate k a) e
+drop-replicate (suc n) (suc m) a h = drop-replicate n m a (omega arith) ∙ ap (λ (k : ℕ). replicate k a) (sym (suc-sub-suc m n))
 
 pub tab-same : {A : Type 0} (f g : ℕ → A) (n : ℕ) → ((k : ℕ) → k < n → f k ≡ g k) → tab f n ≡ tab g n
 unfolding tab

@@ -6,7 +6,7 @@ use mathlib.Core.List.{List, [], _∷_, _++_, append-assoc}
 use mathlib.Core.Logic.{_≢_}
 use Prim.Native.Nat.{ℕ, zero, suc, _+_, _*_, _-_, _/_, _%_, _^_, _<_, _≤_, min, max}
 use native.Mathlib.Omega.{arith}
-use native.Mathlib.Nat.{pow-suc, mod-eq-of-lt, one-mul, mul-comm, div-div-eq-div-mul, div-one}
+use native.Mathlib.Nat.{pow-suc, mod-eq-of-lt, one-mul, mul-comm, div-div-eq-div-mul, div-one, add-zero, sub-self, zero-add}
 use native.Mathlib.Numerals.{add-one}
 use lib.Dec.{eqb, eqb·suc-suc}
 use lib.ListN.{length, take, set}
@@ -14,11 +14,11 @@ use lib.Seq.{take-suc-set}
 use lib.Bits.{bitAnd, bitOr, bitXor, differ, and-step, or-step, xor-step, and-shr, or-shr, xor-shr, and-self, and-le-r}
 use lib.Count.{trailingZeros, under}
 use lib.Pow.{pow-lt}
-use borrow.Author.Tests.{eqb-true, eqb-false, ne-eqb}
-use Rattle.whole.specs.Words.{odd, bit, from, upto, mem, those, some}
-use Rattle.whole.specs.Tests.{cases, refuse}
-use Rattle.whole.specs.Members.{nobody, to-those, some-none, some-true, in-head, in-tail, mem-those, in-those, from-in, in-upto, upto-in, apart-those, apart-upto}
+use borrow.Author.Tests.{ne-eqb}
+use Rattle.whole.specs.Words.{odd, bit, from, upto, mem, those}
+use Rattle.whole.specs.Members.{in-head, in-tail, mem-those, in-those, from-in, in-upto, upto-in, apart-those, apart-upto}
 use Rattle.whole.specs.Pigeon.{Apart}
+use Rattle.whole.specs.Counts.{shift}
 
 -- the decisions of a mask, ascending
 unfoldable pub these : ℕ → List ℕ
@@ -168,10 +168,7 @@ places-those p (suc f) m =
     (λ j h. let l : suc p ≤ j = from-in j (suc p) f h .0 in sym (ap (bit m) (up j l) ∙ bit-half m (j - suc p))))
   where
     first : odd m ≡ bit m (p - p)
-    first = sym (ap (bit m) none ∙ bit-first m)
-      where
-        none : p - p ≡ 0
-        none = omega arith
+    first = sym (ap (bit m) (sub-self p) ∙ bit-first m)
 
     up : (j : ℕ) → suc p ≤ j → j - p ≡ suc (j - suc p)
     up j l = omega arith
@@ -226,24 +223,15 @@ places-step p (suc f) m l h = go (m % 2) refl (λ a b. places-step (suc p) f (m 
 
     go : (d : ℕ) → m % 2 ≡ d → (0 < m / 2 → m / 2 < 2 ^ f → places (suc p) f (m / 2) ≡ (suc p + trailingZeros f (m / 2)) ∷ places (suc p) f (bitAnd (m / 2) (m / 2 - 1)))
         → cond (eqb d 1) (p ∷ places (suc p) f (m / 2)) (places (suc p) f (m / 2)) ≡ (p + under d (trailingZeros f (m / 2))) ∷ places p (suc f) (bitAnd m (m - 1))
-    go zero e r = r (omega arith) low ∙ ap₂ (λ (x : ℕ) (ys : List ℕ). x ∷ ys) (shift (trailingZeros f (m / 2))) (sym (ap (places p (suc f)) (even-less e) ∙ double (bitAnd (m / 2) (m / 2 - 1))))
-      where
-        shift : (t : ℕ) → suc p + t ≡ p + suc t
-        shift t = omega arith
-    go (suc zero) e r = ap₂ (λ (x : ℕ) (ys : List ℕ). x ∷ ys) stay (sym (ap (places p (suc f)) (odd-less e) ∙ double (m / 2)))
-      where
-        stay : p ≡ p + zero
-        stay = omega arith
+    go zero e r = r (omega arith) low ∙ ap₂ (λ (x : ℕ) (ys : List ℕ). x ∷ ys) (shift p (trailingZeros f (m / 2))) (sym (ap (places p (suc f)) (even-less e) ∙ double (bitAnd (m / 2) (m / 2 - 1))))
+    go (suc zero) e r = ap₂ (λ (x : ℕ) (ys : List ℕ). x ∷ ys) (sym (add-zero p)) (sym (ap (places p (suc f)) (odd-less e) ∙ double (m / 2)))
     go (suc (suc d)) e r = absurd (bad e)
       where
         bad : m % 2 ≡ suc (suc d) → ⊥
         bad e = omega arith
 
 pub these-step : (m : ℕ) → 0 < m → m < 2 ^ 64 → these m ≡ trailingZeros 64 m ∷ these (bitAnd m (m - 1))
-these-step m l h = these-places m ∙ places-step 0 64 m l h ∙ ap₂ (λ (x : ℕ) (ys : List ℕ). x ∷ ys) plain (sym (these-places (bitAnd m (m - 1))))
-  where
-    plain : 0 + trailingZeros 64 m ≡ trailingZeros 64 m
-    plain = omega arith
+these-step m l h = these-places m ∙ places-step 0 64 m l h ∙ ap₂ (λ (x : ℕ) (ys : List ℕ). x ∷ ys) (zero-add (trailingZeros 64 m)) (sym (these-places (bitAnd m (m - 1))))
 
 -- ---- one turn of a loop over a mask's decisions
 module _ (m : ℕ) (l : m ≢ 0) (h : m < 2 ^ 64) where
@@ -282,14 +270,3 @@ turn m d h = record {
 }
 
 -- ---- a mask of those that pass says whether some does
-some-of : (p : ℕ → Bool) (xs : List ℕ) → those p xs ≡ [] → some p xs ≡ false
-some-of p xs e = some-none p xs (λ k m. refuse (p k) (λ q. nobody k (ap (mem k) (sym e) ∙ to-those p k xs m q)))
-
-pub some-mask : (m : ℕ) (p : ℕ → Bool) (xs : List ℕ) → m < 2 ^ 64 → these m ≡ those p xs → some p xs ≡ not (eqb m 0)
-some-mask m p xs h e = cases (eqb m 0)
-    (λ z. some-of p xs (sym e ∙ these-end m (eqb-true m 0 z)) ∙ sym (ap not z))
-    (λ z.
-    let d : m ≢ 0 = eqb-false m 0 z in
-    let first : mem (trailingZeros 64 m) (those p xs) ≡ true = ap (mem (trailingZeros 64 m)) (sym e) ∙ first-in m d h in
-    let q = in-those p (trailingZeros 64 m) xs first in
-    some-true p (trailingZeros 64 m) xs (q .0) (q .1) ∙ sym (ap not z))

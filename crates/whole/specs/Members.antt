@@ -176,6 +176,16 @@ pub apart-join : {n : ℕ} {xs : List ℕ} {ys : List ℕ} → Apart n xs → Ap
 apart-join none b h = b
 apart-join {ys = ys} (one {x = x} {xs = xs} l m a) b h = one l (out-both x xs ys m (h x (in-head x xs))) (apart-join a b (λ k r. h k (in-tail k x xs r)))
 
+-- one more, at the end
+pub apart-more : {n : ℕ} (d : ℕ) {xs : List ℕ} → Apart n xs → d < n → mem d xs ≡ false → Apart n (xs ++ d ∷ [])
+unfolding mem
+apart-more d {xs} a l h = apart-join a (one l refl none) (λ k m. out-of-cons k d [] (differ xs m h) refl)
+
+-- below m, so below any larger number
+pub apart-wider : {m n : ℕ} {xs : List ℕ} → m ≤ n → Apart m xs → Apart n xs
+apart-wider h none = none
+apart-wider h (one {x = x} l d a) = one {x = x} (omega arith) d (apart-wider h a)
+
 pub apart-left : {n : ℕ} (xs ys : List ℕ) → Apart n (xs ++ ys) → Apart n xs
 apart-left [] ys a = none
 apart-left (x ∷ xs) ys a = one (apart-head a) (out-append x xs ys (apart-new a) .0) (apart-left xs ys (apart-tail a))
@@ -183,13 +193,6 @@ apart-left (x ∷ xs) ys a = one (apart-head a) (out-append x xs ys (apart-new a
 pub apart-right : {n : ℕ} (xs ys : List ℕ) → Apart n (xs ++ ys) → Apart n ys
 apart-right [] ys a = a
 apart-right (x ∷ xs) ys a = apart-right xs ys (apart-tail a)
-
-pub apart-split : {n : ℕ} (xs ys : List ℕ) (k : ℕ) → Apart n (xs ++ ys) → mem k xs ≡ true → mem k ys ≡ false
-unfolding mem
-apart-split [] ys k a h = clash h refl
-apart-split (x ∷ xs) ys k a h = in-cons k x xs h
-    (λ e. ap (λ (j : ℕ). mem j ys) e ∙ out-append x xs ys (apart-new a) .1)
-    (λ r. apart-split xs ys k (apart-tail a) r)
 
 pub apart-those : {n : ℕ} (p : ℕ → Bool) {xs : List ℕ} → Apart n xs → Apart n (those p xs)
 unfolding those

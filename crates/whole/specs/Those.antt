@@ -1,24 +1,26 @@
 -- Loops over a range of numbers, and those of it that pass a test: one turn more, of what is left and of what has been gone through.
 -- Assumes nothing.
-use mathlib.Core.Path.{_≡_, refl, ap, _∙_}
+use mathlib.Core.Path.{_≡_, refl, ap, _∙_, sym}
 use mathlib.Core.Bool.{Bool, true, false, cond}
 use mathlib.Core.List.{List, [], _∷_, _++_, append-nil}
 use Prim.Native.Nat.{ℕ, zero, suc, _+_, _-_, _<_, _≤_}
 use native.Mathlib.Numerals.{add-one}
 use native.Mathlib.Omega.{arith}
+use native.Mathlib.Nat.{add-zero, zero-add, sub-eq-zero-of-le}
 use lib.ListN.{length}
 use Rattle.whole.specs.Words.{from, upto, those}
 use Rattle.whole.specs.Pigeon.{pigeon}
 use Rattle.whole.specs.Members.{apart-those, apart-upto}
+use Rattle.whole.specs.Counts.{shift, one-left}
 
 -- ---- what is left
 pub from-more : (i n : ℕ) → i < n → from i (n - i) ≡ i ∷ from (i + 1) (n - (i + 1))
 unfolding from
-from-more i n h = let e : n - i ≡ suc (n - (i + 1)) = omega arith in rw (e, add-one)
+from-more i n h = rw (one-left n i h, add-one)
 
 pub from-end : (i n : ℕ) → n ≤ i → from i (n - i) ≡ []
 unfolding from
-from-end i n h = let e : n - i ≡ 0 = omega arith in rw e
+from-end i n h = rw (sub-eq-zero-of-le h)
 
 module _ (p : ℕ → Bool) (n i : ℕ) where
   pub rest-more : i < n → p i ≡ true → those p (from i (n - i)) ≡ i ∷ those p (from (i + 1) (n - (i + 1)))
@@ -36,8 +38,8 @@ module _ (p : ℕ → Bool) (n i : ℕ) where
 -- ---- what has been gone through
 pub from-last : (k c : ℕ) → from k (suc c) ≡ from k c ++ ((k + c) ∷ [])
 unfolding from
-from-last k zero = let e : k + 0 ≡ k = omega arith in rw e
-from-last k (suc c) = let e : k + suc c ≡ suc k + c = omega arith in rw (e, ← from-last (suc k) c)
+from-last k zero = rw (add-zero k)
+from-last k (suc c) = rw (← shift k c, ← from-last (suc k) c)
 
 module _ (p : ℕ → Bool) where
   kept : (t : Bool) (x : ℕ) (xs ys : List ℕ) → cond t (x ∷ (xs ++ ys)) (xs ++ ys) ≡ cond t (x ∷ xs) xs ++ ys
@@ -50,7 +52,7 @@ module _ (p : ℕ → Bool) where
   those-append (x ∷ xs) ys = rw (those-append xs ys) (kept (p x) x (those p xs) (those p ys))
 
   those-last : (k : ℕ) → those p (upto (k + 1)) ≡ those p (upto k) ++ those p (k ∷ [])
-  those-last k = rw (add-one, from-last 0 k, those-append (from 0 k)) (let e : 0 + k ≡ k = omega arith in rw e)
+  those-last k = rw (add-one, from-last 0 k, those-append (from 0 k)) (rw (zero-add k))
 
   pub those-more : (k : ℕ) → p k ≡ true → those p (upto (k + 1)) ≡ those p (upto k) ++ (k ∷ [])
   unfolding those
@@ -62,14 +64,14 @@ module _ (p : ℕ → Bool) where
 
   -- none passes from n on
   pub those-upto : (n c : ℕ) → ((k : ℕ) → n ≤ k → k < n + c → p k ≡ false) → those p (upto (n + c)) ≡ those p (upto n)
-  those-upto n zero h = let e : n + 0 ≡ n = omega arith in ap (λ (k : ℕ). those p (upto k)) e
+  those-upto n zero h = ap (λ (k : ℕ). those p (upto k)) (add-zero n)
   those-upto n (suc c) h =
       let e : n + suc c ≡ n + c + 1 = omega arith in
       ap (λ (k : ℕ). those p (upto k)) e ∙ those-same (n + c) (h (n + c) (omega arith) (omega arith)) ∙ those-upto n c (λ k l m. h k l (omega arith))
 
   pub those-none : (n : ℕ) → ((k : ℕ) → k < n → p k ≡ false) → those p (upto n) ≡ []
   unfolding those from
-  those-none n h = let e : n ≡ 0 + n = omega arith in ap (λ (k : ℕ). those p (upto k)) e ∙ those-upto 0 n (λ k l m. h k (omega arith))
+  those-none n h = ap (λ (k : ℕ). those p (upto k)) (sym (zero-add n)) ∙ those-upto 0 n (λ k l m. h k (omega arith))
 
   pub those-most : (n : ℕ) → length (those p (upto n)) ≤ n
   those-most n = pigeon n (apart-those p (apart-upto n))

@@ -14,9 +14,9 @@ use borrow.Author.Tests.{lt-ltb}
 use Rattle.whole.specs.Words.{isZeroZ, oneIf}
 use Rattle.rules.specs.Eliminate.{Step}
 use Rattle.rules.specs.Outcome.{Outcome}
-use Rattle.rules.specs.WriteText.{decimal, shownZ, listed, listedZ, edgeIf, edgeLines, choicesOf, stepLine, stepLines, yesNo, written, writtenRefusal}
+use Rattle.rules.specs.WriteText.{decimal, shownZ, listed, listedZ, edgeIf, edgeLines, choicesOf, stepLine, stepLines, yesNo, written}
 use Rattle.roundtrip.specs.Steps.{Few}
-use Rattle.write_text.specs.WriteLaws.{edge-length, step-length, opening-length, closing-length, written-parts, refusal-length}
+use Rattle.write_text.specs.WriteLaws.{edge-length, step-length, opening-length, closing-length, written-parts}
 
 -- a number below 10, 100, .. has 1, 2, .. digits at most
 one-more : (t : Bool) (xs : List ℕ) (x d : ℕ) → length xs ≤ d → length (cond t [] xs ++ (x ∷ [])) ≤ suc d
@@ -119,6 +119,3 @@ written-most o m = rw (written-parts o) (simp length-append (omega (
   m .remaining,
   m .count,
 )))
-
-pub refusal-most : (k : ℕ) → length (writtenRefusal k) ≤ 29
-refusal-most k = omega (arith, refusal-length k, decimal-most 20 k)

@@ -1,53 +1,34 @@
 -- What a writer of bytes into a buffer has done. Assumes nothing.
 use mathlib.Core.Path.{_≡_, refl, ap, _∙_}
-use mathlib.Core.List.{List, [], _∷_, _++_, append-nil, append-assoc}
-use Prim.Native.Nat.{ℕ, suc, _+_, _≤_}
-use native.Mathlib.Numerals.{add-one}
+use mathlib.Core.List.{List, [], _∷_, _++_}
+use Prim.Native.Nat.{ℕ, _+_, _≤_}
 use native.Mathlib.Omega.{arith}
-use lib.ListN.{length, set, take, length-append, length-set, length-take}
-use lib.Seq.{take-suc-set}
-
--- l with the bytes bs from the place i on
-unfoldable pub puts : List ℕ → ℕ → List ℕ → List ℕ
-puts l i [] = l
-puts l i (b ∷ bs) = puts (set l i b) (i + 1) bs
+use lib.ListN.{length, set, take, length-append, length-take}
+use lib.Seq.{sets, length-sets}
+use Rattle.whole.specs.Stores.{sets-append, sets-front}
 
 -- bs was written into l from i on: that made it m, and j is the place after
 pub record Wrote (l : List ℕ) (i : ℕ) (bs m : List ℕ) (j : ℕ) : Type 0 where
-  pub list : m ≡ puts l i bs
+  pub list : m ≡ sets l i bs
   pub place : j ≡ i + length bs
 
 pub none : (l : List ℕ) (i : ℕ) → Wrote l i [] l i
-unfolding puts
 none l i = record { list = refl; place = omega arith }
 
 pub one : (l : List ℕ) (i b : ℕ) → Wrote l i (b ∷ []) (set l i b) (i + 1)
-unfolding puts
 one l i b = record { list = refl; place = omega arith }
-
-puts-append : (l : List ℕ) (i : ℕ) (xs ys : List ℕ) → puts l i (xs ++ ys) ≡ puts (puts l i xs) (i + length xs) ys
-unfolding puts
-puts-append l i [] ys = let e : i + 0 ≡ i = omega arith in rw e
-puts-append l i (x ∷ xs) ys = let e : i + suc (length xs) ≡ i + 1 + length xs = omega arith in rw e (puts-append (set l i x) (i + 1) xs ys)
 
 -- one after the other
 infixl 5 _then_
 pub _then_ : {l m n xs ys : List ℕ} {i j k : ℕ} → Wrote l i xs m j → Wrote m j ys n k → Wrote l i (xs ++ ys) n k
 _then_ {l} {m} {n} {xs} {ys} {i} {j} {k} a b = record {
-  list = b .list ∙ rw (a .list, a .place, puts-append l i xs ys);
+  list = b .list ∙ rw (a .list, a .place, sets-append xs l i ys);
   place = rw (length-append xs ys) (omega (arith, a .place, b .place));
 }
 
 -- the front of the buffer
-puts-front : (l : List ℕ) (i : ℕ) (bs : List ℕ) → i + length bs ≤ length l → take (i + length bs) (puts l i bs) ≡ take i l ++ bs
-unfolding puts
-puts-front l i [] h = let e : i + 0 ≡ i = omega arith in rw (e, append-nil)
-puts-front l i (b ∷ bs) h =
-    let e : i + suc (length bs) ≡ i + 1 + length bs = omega arith in
-    rw (e, puts-front (set l i b) (i + 1) bs (rw (length-set l i b) (omega arith)), add-one, take-suc-set l i b (omega arith), append-assoc)
-
 pub front : {l m bs : List ℕ} {i j : ℕ} → Wrote l i bs m j → j ≤ length l → take j m ≡ take i l ++ bs
-front {l} {m} {bs} {i} {j} w h = rw (w .list, w .place) (puts-front l i bs (omega (arith, w .place)))
+front {l} {m} {bs} {i} {j} w h = rw (w .list, w .place) (sets-front bs l i (omega (arith, w .place)))
 
 -- a text begins with xs, and ys is what is left of it
 pub record Begins (text xs ys : List ℕ) : Type 0 where
@@ -55,7 +36,7 @@ pub record Begins (text xs ys : List ℕ) : Type 0 where
 
 -- of the bytes `all`, to be written into l from i on, `rest` is still to be written, into m from j on
 pub record Rest (l : List ℕ) (i : ℕ) (all m : List ℕ) (j : ℕ) (rest : List ℕ) : Type 0 where
-  pub list : puts m j rest ≡ puts l i all
+  pub list : sets m j rest ≡ sets l i all
   pub place : j + length rest ≡ i + length all
 
 pub begin : (l : List ℕ) (i : ℕ) (all : List ℕ) → Rest l i all l i all
@@ -63,7 +44,7 @@ begin l i all = record { list = refl; place = refl }
 
 pub onward : {l all m n xs ys rest : List ℕ} {i j k : ℕ} → Rest l i all m j rest → Begins rest xs ys → Wrote m j xs n k → Rest l i all n k ys
 onward {l} {all} {m} {n} {xs} {ys} {rest} {i} {j} {k} r e w = record {
-  list = rw (w .list, w .place, ← puts-append m j xs ys, ← (e .parts)) (r .list);
+  list = rw (w .list, w .place, ← sets-append xs m j ys, ← (e .parts)) (r .list);
   place = omega (arith, r .place, w .place, ap length (e .parts), length-append xs ys);
 }
 
@@ -72,16 +53,10 @@ pub fits : {l all m xs ys rest : List ℕ} {i j : ℕ} → Rest l i all m j rest
 fits {l} {all} {m} {xs} {ys} r e = omega (arith, r .place, ap length (e .parts), length-append xs ys)
 
 pub over : {l all m : List ℕ} {i j : ℕ} → Rest l i all m j [] → Wrote l i all m j
-unfolding puts
 over r = record { list = r .list; place = omega (arith, r .place) }
 
-puts-length : (l : List ℕ) (i : ℕ) (bs : List ℕ) → length (puts l i bs) ≡ length l
-unfolding puts
-puts-length l i [] = refl
-puts-length l i (b ∷ bs) = puts-length (set l i b) (i + 1) bs ∙ length-set l i b
-
 pub kept-length : {l m bs : List ℕ} {i j : ℕ} → Wrote l i bs m j → length m ≡ length l
-kept-length {l} {m} {bs} {i} {j} w = rw (w .list) (puts-length l i bs)
+kept-length {l} {m} {bs} {i} {j} w = rw (w .list) (length-sets l i bs)
 
 -- the buffer's length
 abbrev pub room : ℕ

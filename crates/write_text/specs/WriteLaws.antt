@@ -10,14 +10,17 @@ use lib.ListN.{length, getD, take, drop, length-append, drop-of-length-le}
 use lib.Seq.{drop-cons}
 use lib.IntN.{ℤ, pos, negsuc, natAbs}
 use lib.Signed.{ltZ}
-use borrow.Author.Tests.{lt-ltb, le-ltb, ltb-true, ne-eqb}
+use borrow.Author.Tests.{lt-ltb, le-ltb, ltb-true}
 use Rattle.whole.specs.Words.{isZeroZ}
+use Rattle.whole.specs.Cmp.{zero-of}
+use Rattle.whole.specs.Tests.{refuse}
+use Rattle.whole.specs.Counts.{less-one}
 use Rattle.rules.specs.Eliminate.{Step}
 use Rattle.rules.specs.Outcome.{Outcome}
 use Rattle.write_text.specs.Puts.{Begins}
 use Rattle.write_text.specs.Held.{opening, closing}
 use Rattle.rules.specs.Bytes.{bytes}
-use Rattle.rules.specs.WriteText.{decimal, shown, shownZ, listed, listedZ, edgeIf, edgeLine, edgeLines, choicesOf, stepLine, stepLines, yesNo, written, writtenRefusal}
+use Rattle.rules.specs.WriteText.{decimal, shown, shownZ, listed, listedZ, edgeIf, edgeLine, edgeLines, choicesOf, stepLine, stepLines, yesNo, written}
 
 pub decimal-none : (k v : ℕ) → k ≡ 0 → decimal k v ≡ []
 unfolding decimal
@@ -31,7 +34,7 @@ decimal-last (suc k) v n h = rw (lt-ltb v 10 h)
 pub decimal-more : (k v : ℕ) → (k ≡ 0 → ⊥) → 10 ≤ v → decimal k v ≡ decimal (k - 1) (v / 10) ++ ((48 + v % 10) ∷ [])
 unfolding decimal
 decimal-more zero v n h = absurd (n refl)
-decimal-more (suc k) v n h = let e : suc k - 1 ≡ k = omega arith in rw (le-ltb v 10 h, e)
+decimal-more (suc k) v n h = rw (le-ltb v 10 h, less-one k)
 
 pub decimal-more-length : (k v : ℕ) → (k ≡ 0 → ⊥) → 10 ≤ v → length (decimal k v) ≡ length (decimal (k - 1) (v / 10)) + 1
 decimal-more-length k v n h = rw (decimal-more k v n h, length-append)
@@ -50,8 +53,7 @@ pub edge-length : (i j : ℕ) (w : ℤ) → length (edgeIf true i j w) ≡ 5 + l
 edge-length i j w = simp length-append (omega arith)
 
 pub zero-no : (w : ℤ) → (w ≡ pos 0 → ⊥) → isZeroZ w ≡ false
-zero-no (pos v) h = ne-eqb v 0 (λ e. h (ap pos e))
-zero-no (negsuc v) h = refl
+zero-no w h = refuse (isZeroZ w) (λ t. h (zero-of w t))
 
 -- what is left of a list at the place j
 pub listed-left : (xs : List ℕ) (j : ℕ) → j < length xs → Begins (listed (drop j xs)) (32 ∷ shown (getD xs j 0)) (listed (drop (j + 1) xs))
@@ -130,7 +132,3 @@ written-parts o =
     (shown (o .units))
     (bytes " complete ")
     (yesNo (o .complete))
-
-pub refusal-length : (k : ℕ) → length (writtenRefusal k) ≡ 8 + length (shown k) + 1
-unfolding writtenRefusal
-refusal-length k = simp length-append (omega arith)

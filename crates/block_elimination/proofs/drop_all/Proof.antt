@@ -7,7 +7,8 @@ use Rattle.rules.specs.SmallBlock.{dropAll}
 use Rattle.graph.specs.Held.{held}
 use Rattle.graph.specs.Shows.{Shows}
 use Rattle.block_minima.specs.Turns.{next-of, none-left}
-use Rattle.block_elimination.specs.BlockLaws.{drops-more, drops-none, dropped-n}
+use Rattle.graph.specs.HeldLaws.{dropped-n}
+use Rattle.block_elimination.specs.BlockLaws.{drops-more, drops-none}
 use Rattle.block_elimination.proofs.drop_all.Statement.{statement}
 use Rattle.block_elimination.proofs.drop_all.Tie as tie
 

@@ -1,15 +1,17 @@
 use Rattle.degree_three.proofs.Absorbing.{absorb-made}
+use Rattle.degree_three.proofs.Taking.{triple-low, triple-other}
 use Rattle.whole.specs.Fits.{read, sum-fits}
 use Rattle.low_degree.proofs.Laws.{gain-fits}
-use Rattle.accepted.specs.Small.{Small, small-gain}
-use lib.IntN.{ℤ, pos}
+use lib.IntN.{ℤ, pos, _+ℤ_}
 use lib.ListN.{getD}
+use lib.Seq.{getD-set-other}
 use mir.Syntax.{w64}
-use mir.Val.{toZ, ofZ}
+use mir.Val.{SFits, toZ, ofZ}
 use denote.Ref.{now}
-use mathlib.Core.Path.{_≡_, sym, subst}
+use mathlib.Core.List.{List}
+use mathlib.Core.Path.{_≡_, refl, ap, _∙_}
 use native.Mathlib.Omega.{arith}
-use Prim.Native.Nat.{ℕ, _+_, _^_}
+use Prim.Native.Nat.{ℕ, _<_}
 use borrow.Author.Needs.{needs}
 use Rattle.degree_three.proofs.absorb_three.Statement.{statement}
 use Rattle.degree_three.proofs.absorb_three.Tie as tie
@@ -18,38 +20,56 @@ abbrev entry : tie.Start → ℕ → ℤ
 entry s m = getD (s .args .t6) m (pos 0)
 
 kept : (s : tie.Start) (m : ℕ) → toZ w64 (ofZ w64 (entry s m)) ≡ entry s m
-kept s m = read (entry s m) (omega (arith, s .pre .4 .each m))
+kept s m = read (entry s m) (omega (arith, s .pre .2 .each m))
+
+abbrev near : tie.Start → ℕ → ℕ
+near s a = getD (s .args .near .list) a 0
+
+-- a neighbour that has gained nothing yet gains an entry
+gains : (s : tie.Start) (a m : ℕ) → a < 3 → (x : List ℤ) → getD x (near s a) (pos 0) ≡ getD (now (s .args .lin)) (near s a) (pos 0) → (near s a < 64) × SFits w64 (getD x (near s a) (pos 0) +ℤ entry s m)
+gains s a m h x e = (triple-low (s .pre .0) a h, gain-fits (now (s .args .lin)) x (near s a) (entry s m) (s .pre .1 .linear (near s a)) e (s .pre .2 .each m) (omega arith))
 
 add-constant-requires : tie.Need-add-constant-requires
 add-constant-requires c κs =
     let s = c .before .before .before .before .before in
-    rw (kept s 0) (sum-fits (s .args .f .constant) (entry s 0) (omega (arith, s .pre .1)) (omega (arith, s .pre .4 .each 0)))
+    rw (kept s 0) (sum-fits (s .args .f .constant) (entry s 0) (omega (arith, s .pre .1 .constant)) (omega (arith, s .pre .2 .each 0)))
 
 add-linear-requires : tie.Need-add-linear-requires
 add-linear-requires c κs =
     let s = c .before .before .before .before .before .before .before in
-    rw (kept s 1) (s .pre .0 0, gain-fits (getD (s .args .near .list) 0 0) (entry s 1) (s .pre .2) (omega arith) (omega (arith, s .pre .4 .each 1)))
+    rw (kept s 1) (gains s 0 1 (omega arith) (now (s .args .lin)) refl)
 
--- the weights after one, and after two, neighbours
-first : (c : tie.After-add-linear) → Small (2 ^ 50 + 2 ^ 54) (c .add-linear .last .0)
-first c =
+-- what a later neighbour has is still what it had, after one and after two
+first : (c : tie.After-add-linear) (b : ℕ) → 0 < b → b < 3
+    → let s = c .before .before .before .before .before .before .before .before in getD (c .add-linear .last .0) (near s b) (pos 0) ≡ getD (now (s .args .lin)) (near s b) (pos 0)
+first c b h l =
     let s = c .before .before .before .before .before .before .before .before in
-    subst (Small (2 ^ 50 + 2 ^ 54)) (sym (rw (kept s 1) at (c .add-linear .ensures))) (small-gain (getD (s .args .near .list) 0 0) (entry s 1) (s .pre .2) (s .pre .4 .each 1))
+    let e = rw (kept s 1) at (c .add-linear .ensures) in
+    ap (λ (x : List ℤ). getD x (near s b) (pos 0)) e ∙ getD-set-other (now (s .args .lin)) (near s 0) (near s b) _ (pos 0) (triple-other (s .pre .0) 0 b h l)
 
-second : (c : tie.After-add-linear2) → Small (2 ^ 50 + 2 ^ 54 + 2 ^ 54) (c .add-linear2 .last .0)
+second : (c : tie.After-add-linear2)
+    → let s = c .before .before .before .before .before .before .before .before .before .before in getD (c .add-linear2 .last .0) (near s 2) (pos 0) ≡ getD (now (s .args .lin)) (near s 2) (pos 0)
 second c =
     let s = c .before .before .before .before .before .before .before .before .before .before in
-    subst (Small (2 ^ 50 + 2 ^ 54 + 2 ^ 54)) (sym (rw (kept s 2) at (c .add-linear2 .ensures))) (small-gain (getD (s .args .near .list) 1 0) (entry s 2) (first (c .before .before)) (s .pre .4 .each 2))
+    let e = rw (kept s 2) at (c .add-linear2 .ensures) in
+    ap (λ (x : List ℤ). getD x (near s 2) (pos 0)) e
+    ∙ getD-set-other (c .before .before .add-linear .last .0) (near s 1) (near s 2) _ (pos 0) (triple-other (s .pre .0) 1 2 (omega arith) (omega arith))
+    ∙ first (c .before .before) 2 (omega arith) (omega arith)
 
 add-linear-requires-2 : tie.Need-add-linear-requires-2
 add-linear-requires-2 c κs =
     let s = c .before .before .before .before .before .before .before .before .before in
-    rw (kept s 2) (s .pre .0 1, gain-fits (getD (s .args .near .list) 1 0) (entry s 2) (first (c .before)) (omega arith) (omega (arith, s .pre .4 .each 2)))
+    rw (kept s 2) (gains s 1 2 (omega arith) (c .before .add-linear .last .0) (first (c .before) 1 (omega arith) (omega arith)))
 
 add-linear-requires-3 : tie.Need-add-linear-requires-3
 add-linear-requires-3 c κs =
     let s = c .before .before .before .before .before .before .before .before .before .before .before in
-    rw (kept s 4) (s .pre .0 2, gain-fits (getD (s .args .near .list) 2 0) (entry s 4) (second (c .before)) (omega arith) (omega (arith, s .pre .4 .each 4)))
+    rw (kept s 4) (gains s 2 4 (omega arith) (c .before .add-linear2 .last .0) (second (c .before)))
+
+add-pairs-requires : tie.Need-add-pairs-requires
+add-pairs-requires c κs =
+    let s = c .before .before .before .before .before .before .before .before .before .before .before .before .before .before in
+    (s .pre .0, record { each = s .pre .1 .edges }, s .pre .2)
 
 returns : tie.Need-returns
 returns c =
@@ -86,5 +106,5 @@ absorb-three-spec =
     add-linear-requires
     add-linear-requires-2
     add-linear-requires-3
-    (λ c κs. search needs)
+    add-pairs-requires
     returns)

@@ -1,13 +1,13 @@
-use Rattle.degree_three.proofs.Absorbing.{moebius-table, eliminated}
+use Rattle.degree_three.proofs.Absorbing.{moebius-table, near-triple, eliminated}
 use Rattle.whole.specs.Fits.{read}
 use Rattle.low_degree.specs.Table.{stepFrom}
 use Rattle.low_degree.specs.TableLaws.{degree-few, table-asks, step-table}
 use Rattle.whole.specs.Cmp.{zero-is, zero-not}
 use Rattle.graph.specs.Held.{held}
-use Rattle.graph.specs.NearLaws.{near-below, near-inside}
+use Rattle.graph.specs.NearLaws.{near-inside}
 use Rattle.accepted.specs.Small.{Small, small-more}
 use Rattle.size_rule.specs.SumSizes.{tees-three, entries-three}
-use Rattle.graph.specs.Small.{dropped-constant, dropped-linear, dropped-edges}
+use Rattle.graph.specs.Small.{dropped-within}
 use Rattle.rules.specs.Graph.{Graph, degree}
 use Rattle.rules.specs.Eliminate.{delta, tee, stepOf}
 use Rattle.rules.specs.DegreeThree.{moebius, cubic, eliminate3}
@@ -84,10 +84,8 @@ absorb-three-requires c κs =
     let g = before s in
     let d = c .before .before .before .drop-to in
     let after = held (d .result) (d .last .0) (d .last .1 .0) in (
-      near-below g (a .i) (a .near) (s .pre .3) (s .pre .1),
-      omega (arith, dropped-constant 3 (a .i) g after (d .ensures .0) (s .pre .2)),
-      small-more (2 ^ 50) (dropped-linear 3 (a .i) g after (d .ensures .0) (s .pre .2)) (omega arith),
-      small-more (2 ^ 50) (dropped-edges 3 (a .i) g after (d .ensures .0) (s .pre .2)) (omega arith),
+      near-triple g (a .i) (a .near) (s .pre .3) (s .pre .4) (s .pre .1),
+      dropped-within 3 (a .i) g after (d .ensures .0) (s .pre .2),
       subst (Small (2 ^ 54)) (sym (entries-are m)) (small-more (2 ^ 54) (entries-three g (s .pre .2) (a .i) (three s)) (omega arith)),
     )
 

@@ -6,18 +6,22 @@ use Rattle.low_degree.proofs.Laws.{gain-fits}
 use Rattle.rules.specs.Graph.{Graph, lin, edge}
 use Rattle.rules.specs.DominantEdge.{positive}
 use Rattle.graph.specs.Held.{held}
-use Rattle.accepted.specs.Small.{Small, small-more, small-gain}
-use Rattle.graph.specs.Small.{dropped-constant, dropped-linear, dropped-edges}
+use Rattle.rules.specs.Size.{Within}
+use Rattle.accepted.specs.Small.{Small}
+use Rattle.graph.specs.Small.{dropped-within}
 use Rattle.size_rule.specs.Sizes.{add-size, neg-size}
-use lib.IntN.{ℤ, negℤ, _+ℤ_}
+use lib.IntN.{ℤ, pos, negℤ, _+ℤ_}
+use lib.ListN.{getD}
+use lib.Seq.{getD-set-other}
 use mathlib.Core.List.{List}
 use mir.Syntax.{w64}
 use mir.Val.{toZ, ofZ}
 use denote.Ref.{now}
 use mathlib.Core.Bool.{true, false}
-use mathlib.Core.Path.{_≡_, sym, subst}
+use mathlib.Core.Logic.{_≢_}
+use mathlib.Core.Path.{_≡_, refl, ap}
 use native.Mathlib.Omega.{arith}
-use Prim.Native.Nat.{_+_, _*_, _-_, _^_, _≤_}
+use Prim.Native.Nat.{ℕ, _+_, _*_, _-_, _≤_}
 use borrow.Author.Needs.{needs}
 use Rattle.dominant_edge.proofs.contract.Statement.{statement}
 use Rattle.dominant_edge.proofs.contract.Tie as tie
@@ -65,18 +69,15 @@ gone c =
     let s = start c in
     row-gone (before s) (s .args .i) (64 - s .args .f .n) (row c) (c .before .before .before .before .row-of .ensures) (s .args .m) (s .pre .4)
 
-linear-small : (c : tie.After-drop-to) → Small 1099511627776 (c .drop-to .last .0)
-linear-small c = dropped-linear 3 (start c .args .i) (before (start c)) (after c) (c .drop-to .ensures .0) (start c .pre .3)
-
-edges-small : (c : tie.After-drop-to) → Small (2 ^ 50) (c .drop-to .last .1 .0)
-edges-small c = small-more (2 ^ 50) (dropped-edges 3 (start c .args .i) (before (start c)) (after c) (c .drop-to .ensures .0) (start c .pre .3)) (omega arith)
+within : (c : tie.After-drop-to) → Within (after c)
+within c = dropped-within 3 (start c .args .i) (before (start c)) (after c) (c .drop-to .ensures .0) (start c .pre .3)
 
 add-constant-requires : tie.Need-add-constant-requires
 add-constant-requires c κs =
     let d = c .before in
     let s = start d in
     rw (a-read s)
-    (sum-fits (d .drop-to .result .constant) (a s) (omega (arith, dropped-constant 3 (s .args .i) (before s) (after d) (d .drop-to .ensures .0) (s .pre .3))) (omega (arith, a-small s)))
+    (sum-fits (d .drop-to .result .constant) (a s) (omega (arith, within d .constant)) (omega (arith, a-small s)))
 
 sub-add-linear : tie.Need-sub-add-linear
 sub-add-linear c = let s = start (c .before .before .before) in minus-fits (a s) (omega (arith, a-small s))
@@ -86,14 +87,16 @@ add-linear-requires c κs =
     let d = c .before .before .before in
     let s = start d in
     rw (minus (a s) (omega (arith, a-small s)))
-    (omega arith, gain-fits (s .args .j) (negℤ (a s)) (linear-small d) (omega arith) (omega (arith, neg-size (a s) (a-small s))))
+    (omega arith, gain-fits (d .drop-to .last .0) (d .drop-to .last .0) (s .args .j) (negℤ (a s)) (within d .linear (s .args .j)) refl (neg-size (a s) (a-small s)) (omega arith))
 
 turn-edges-requires : tie.Need-turn-edges-requires
 turn-edges-requires c κs =
     let d = c .before .before .before .before .before .before .before .before in
     let s = start d in
     let e = rw (minus (a s) (omega (arith, a-small s))) at (c .before .before .before .before .add-linear .ensures) in
-    (omega arith, row-is-small d, subst (Small (2 ^ 50)) (sym e) (small-more (2 ^ 50) (small-gain (s .args .j) (negℤ (a s)) (linear-small d) (neg-size (a s) (a-small s))) (omega arith)), edges-small d)
+    let others : (t : ℕ) → t ≢ s .args .j → ∣ getD (c .before .before .before .before .add-linear .last .0) t (pos 0) ∣ ≤ 1099511627776 = λ t n.
+    omega (arith, ap (λ (x : List ℤ). ∣ getD x t (pos 0) ∣) e, ap ∣_∣ (getD-set-other (d .drop-to .last .0) (s .args .j) t (getD (d .drop-to .last .0) (s .args .j) (pos 0) +ℤ negℤ (a s)) (pos 0) n), within d .linear t) in
+    (omega arith, row-is-small d, others, record { each = within d .edges })
 
 returns : tie.Need-returns
 returns c =
@@ -126,12 +129,12 @@ add-linear-requires-2 : tie.Need-add-linear-requires-2
 add-linear-requires-2 c κs =
     let d = c .before .before in
     let s = start d in
-    rw (gain s) (omega arith, gain-fits (s .args .j) (a s +ℤ w s) (linear-small d) (omega arith) (omega (arith, sum-small s)))
+    rw (gain s) (omega arith, gain-fits (d .drop-to .last .0) (d .drop-to .last .0) (s .args .j) (a s +ℤ w s) (within d .linear (s .args .j)) refl (sum-small s) (omega arith))
 
 move-edges-requires : tie.Need-move-edges-requires
 move-edges-requires c κs =
     let d = c .before .before .before .before .before .before in
-    (omega arith, row-is-small d, edges-small d)
+    (omega arith, row-is-small d, record { each = within d .edges })
 
 returns-2 : tie.Need-returns-2
 returns-2 c =

@@ -1,10 +1,11 @@
 use Rattle.dominant_edge.specs.Answer.{Gone}
-use Rattle.dominant_edge.proofs.Giving.{turned-by, turn-cons, turn-none, gain-fits-once, Keeps, keeps-begin, keeps-same, keeps-gain, at, weight, at-low, at-in, still, other, weight-small, weight-read, edge-fits, gives, passes-by, minus, minus-fits}
+use Rattle.dominant_edge.proofs.Giving.{turned-by, turn-cons, turn-none, Keeps, keeps-begin, keeps-same, keeps-gain, at, weight, at-low, at-in, still, other, weight-small, weight-read, edge-fits, gives, passes-by, minus, minus-fits}
 use Rattle.whole.specs.Masks.{these, these-end as ended, rest-less}
 use Rattle.rules.specs.DominantEdge.{turn}
 use Rattle.rules.specs.Graph.{Graph, graph, addEdge}
 use Rattle.graph.specs.HeldLaws.{linear-gain, edge-gain}
 use Rattle.size_rule.specs.Sizes.{neg-size}
+use Rattle.low_degree.proofs.Laws.{gain-fits}
 use Rattle.whole.specs.Words.{mem}
 use lib.IntN.{ℤ, pos, negℤ}
 use lib.ListN.{getD}
@@ -35,9 +36,10 @@ loop-holds c =
 add-linear-requires : tie.Need-add-linear-requires Inv-loop μ-loop
 add-linear-requires c κs =
     let l = c .before .before .before .before .loop in
+    let s = c .before .before .before .before .before in
     let k = l .inv .0 in
     let d = c .before .before .before .loop-test .taken in
-    rw (weight-read k d) (at-low k d, gain-fits-once (l .lin) (at k d) (weight k d) (c .before .before .before .before .before .pre .2) (l .inv .1 (at k d) (at-in k d)) (weight-small k d))
+    rw (weight-read k d) (at-low k d, gain-fits (now (s .args .lin)) (l .lin) (at k d) (weight k d) (s .pre .2 (at k d) (c .before .if1 .taken)) (l .inv .1 (at k d) (at-in k d)) (weight-small k d) (omega arith))
 
 sub-add-edge : tie.Need-sub-add-edge Inv-loop μ-loop
 sub-add-edge c =

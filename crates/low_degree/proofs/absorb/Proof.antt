@@ -1,25 +1,28 @@
-use Rattle.low_degree.proofs.Laws.{Gains, gains, gain-fits, absorb-none, absorb-one, absorb-two}
+use Rattle.low_degree.proofs.Laws.{Gains, gains, gain-fits, first-low, second-other, absorb-none, absorb-one, absorb-two}
 use Rattle.whole.specs.Fits.{sum-fits}
-use Rattle.accepted.specs.Small.{Small, small-gain}
 use Rattle.whole.specs.Ints.{rd}
-use lib.IntN.{pos, _+ℤ_, _-ℤ_}
+use lib.IntN.{ℤ, pos, _+ℤ_, _-ℤ_}
 use lib.ListN.{getD, set}
+use lib.Seq.{getD-set-other}
+use mir.Syntax.{w64}
+use mir.Val.{SFits}
 use denote.Ref.{now}
-use mathlib.Core.Path.{_≡_, sym, subst}
+use mathlib.Core.Path.{_≡_, refl, ap, _∙_}
 use native.Mathlib.Omega.{arith}
-use Prim.Native.Nat.{_+_, _*_, _^_}
+use mathlib.Core.List.{List}
+use Prim.Native.Nat.{ℕ, _+_, _*_}
 use borrow.Author.Needs.{needs}
 use Rattle.low_degree.proofs.absorb.Statement.{statement}
 use Rattle.low_degree.proofs.absorb.Tie as tie
 
 table : (c : tie.Start) → Gains (c .args .t5)
-table c = gains (c .args .t5) (c .pre .6)
+table c = gains (c .args .t5) (c .pre .3)
 
 add-constant-requires : tie.Need-add-constant-requires
 add-constant-requires c κs =
     let s = c .before .before .before .before in
     let m = table s in
-    rw (m .r0) (sum-fits (s .args .f .constant) (getD (s .args .t5) 0 (pos 0)) (omega (arith, s .pre .3)) (omega (arith, m .b0)))
+    rw (m .r0) (sum-fits (s .args .f .constant) (getD (s .args .t5) 0 (pos 0)) (omega (arith, s .pre .2 .constant)) (omega (arith, m .b0)))
 
 returns : tie.Need-returns
 returns c =
@@ -35,8 +38,9 @@ add-linear-requires : tie.Need-add-linear-requires
 add-linear-requires c κs =
     let s = c .before .before .before .before .before .before .before in
     let m = table s in
-    let v = getD (s .args .t5) 1 (pos 0) -ℤ getD (s .args .t5) 0 (pos 0) in
-    rw (m .r1, m .r0, rd (m .d1)) (s .pre .0, gain-fits (s .args .j) v (s .pre .4) (omega arith) (omega (arith, m .b1)))
+    let a = s .args in
+    let v = getD (a .t5) 1 (pos 0) -ℤ getD (a .t5) 0 (pos 0) in
+    rw (m .r1, m .r0, rd (m .d1)) (first-low (a .count) (a .j) (a .k) (s .pre .0) (c .before .if1 .left), gain-fits (now (a .lin)) (now (a .lin)) (a .j) v (s .pre .2 .linear (a .j)) refl (m .b1) (omega arith))
 
 returns-2 : tie.Need-returns-2
 returns-2 c =
@@ -62,7 +66,10 @@ add-linear-requires-2 c κs =
     let v = getD (a .t5) 1 (pos 0) -ℤ getD (a .t5) 0 (pos 0) in
     let w = getD (a .t5) 2 (pos 0) -ℤ getD (a .t5) 0 (pos 0) in
     let e : c .before .before .add-linear .last .0 ≡ set (now (a .lin)) (a .j) (getD (now (a .lin)) (a .j) (pos 0) +ℤ v) = rw (m .r1, m .r0, rd (m .d1)) at (c .before .before .add-linear .ensures) in
-    rw (m .r2, m .r0, rd (m .d2)) (s .pre .1, gain-fits (a .k) w (subst (Small (2 ^ 50 + 2 ^ 52)) (sym e) (small-gain (a .j) v (s .pre .4) (m .b1))) (omega arith) (omega (arith, m .b2)))
+    let two : a .count ≡ 2 = omega (arith, s .pre .1, c .before .if2 .left, c .before .before .before .before .if1 .left) in
+    let o = second-other (a .count) (a .j) (a .k) two (s .pre .0) in
+    let same : getD (c .before .before .add-linear .last .0) (a .k) (pos 0) ≡ getD (now (a .lin)) (a .k) (pos 0) = ap (λ (x : List ℤ). getD x (a .k) (pos 0)) e ∙ getD-set-other (now (a .lin)) (a .j) (a .k) _ (pos 0) (o .1) in
+    rw (m .r2, m .r0, rd (m .d2)) (o .0, gain-fits (now (a .lin)) (c .before .before .add-linear .last .0) (a .k) w (s .pre .2 .linear (a .k)) same (m .b2) (omega arith))
 
 sub-add-edge : tie.Need-sub-add-edge
 sub-add-edge c =
@@ -85,15 +92,19 @@ add-edge-requires c κs =
     let a = s .args in
     let m = table s in
     let v = getD (a .t5) 3 (pos 0) -ℤ getD (a .t5) 1 (pos 0) -ℤ getD (a .t5) 2 (pos 0) +ℤ getD (a .t5) 0 (pos 0) in
+    let one = c .before .before .before .before .before .before .before .if1 .left in
+    let two : a .count ≡ 2 = omega (arith, s .pre .1, c .before .before .before .before .if2 .left, one) in
+    let e = now (a .edges) in
+    let at : (p : ℕ) → SFits w64 (getD e p (pos 0) +ℤ v) = λ p. gain-fits e e p v (s .pre .2 .edges p) refl (m .b3) (omega arith) in
     rw (m .r3, m .r1, m .r2, m .r0, rd (m .e1), rd (m .e2), rd (m .e3))
-    (s .pre .0, s .pre .1, gain-fits (64 * a .j + a .k) v (s .pre .5) (omega arith) (omega (arith, m .b3)), gain-fits (64 * a .k + a .j) v (s .pre .5) (omega arith) (omega (arith, m .b3)))
+    (first-low (a .count) (a .j) (a .k) (s .pre .0) one, second-other (a .count) (a .j) (a .k) two (s .pre .0) .0, at (64 * a .j + a .k), at (64 * a .k + a .j))
 
 returns-3 : tie.Need-returns-3
 returns-3 c =
     let s = c .before .before .before .before .before .before .before .before .before .before .before .before .before .before in
     let a = s .args in
     let m = table s in
-    let two : a .count ≡ 2 = omega (arith, s .pre .2, c .before .before .before .before .before .if2 .left, c .before .before .before .before .before .before .before .before .if1 .left) in (
+    let two : a .count ≡ 2 = omega (arith, s .pre .1, c .before .before .before .before .before .if2 .left, c .before .before .before .before .before .before .before .before .if1 .left) in (
       absorb-two (λ m. getD (a .t5) m (pos 0)) (a .f) (c .before .before .before .before .before .before .before .before .before .add-constant .result) (now (a .lin)) (now (a .edges)) (a .j) (a .k)
           (rw (m .r0) at (c .before .before .before .before .before .before .before .before .before .add-constant .ensures))
           (a .count) (c .before .before .before .before .before .before .add-linear .last .0) (c .before .before .before .add-linear2 .last .0) (c .add-edge .last .0) two

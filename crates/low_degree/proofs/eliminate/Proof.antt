@@ -1,4 +1,4 @@
-use Rattle.low_degree.proofs.Laws.{eliminated}
+use Rattle.low_degree.proofs.Laws.{pair-apart, eliminated}
 use Rattle.whole.specs.Fits.{read}
 use Rattle.low_degree.specs.Table.{stepFrom}
 use Rattle.low_degree.specs.TableLaws.{degree-few, table-asks, step-table}
@@ -6,7 +6,7 @@ use Rattle.graph.specs.Held.{held}
 use Rattle.graph.specs.NearLaws.{near-below, near-inside}
 use Rattle.accepted.specs.Small.{Small, small-more}
 use Rattle.size_rule.specs.SumSizes.{tees-three}
-use Rattle.graph.specs.Small.{dropped-constant, dropped-linear, dropped-edges}
+use Rattle.graph.specs.Small.{dropped-within}
 use Rattle.rules.specs.Graph.{Graph}
 use Rattle.rules.specs.Eliminate.{delta, tee}
 use Rattle.whole.specs.Words.{tab}
@@ -58,14 +58,10 @@ absorb-requires c κs =
     let a = s .args in
     let g = before s in
     let d = c .before .before .before .before .drop-to in
-    let after = held (d .result) (d .last .0) (d .last .1 .0) in
-    let low = near-below g (a .i) (a .near) (s .pre .3) (s .pre .1) in (
-      low 0,
-      low 1,
+    let after = held (d .result) (d .last .0) (d .last .1 .0) in (
+      pair-apart g (a .i) (a .near) (s .pre .3) (s .pre .4) (s .pre .1),
       s .pre .4,
-      omega (arith, dropped-constant 3 (a .i) g after (d .ensures .0) (s .pre .2)),
-      small-more (2 ^ 50) (dropped-linear 3 (a .i) g after (d .ensures .0) (s .pre .2)) (omega arith),
-      small-more (2 ^ 50) (dropped-edges 3 (a .i) g after (d .ensures .0) (s .pre .2)) (omega arith),
+      dropped-within 3 (a .i) g after (d .ensures .0) (s .pre .2),
       subst (Small (2 ^ 50)) (sym (table t .1)) (small-more (2 ^ 50) (tees-three g (s .pre .2) (a .i) (degree-few g (a .i) (a .near) (s .pre .3) (few s))) (omega arith)),
     )
 

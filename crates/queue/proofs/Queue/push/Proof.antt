@@ -8,9 +8,10 @@ use borrow.Author.Needs.{needs}
 use denote.Ref.{now}
 use Rattle.whole.specs.Words.{mem}
 use Rattle.whole.specs.Pigeon.{Apart}
+use Rattle.whole.specs.Members.{apart-more}
 use Rattle.queue.specs.Items.{items, Kept}
 use Rattle.queue.specs.declared.Queue.{Queue}
-use Rattle.queue.proofs.Laws.{ring-more, ring-length, room, apart-more, shown-more}
+use Rattle.queue.proofs.Laws.{ring-more, ring-length, room, shown-more}
 use Rattle.queue.proofs.Queue.push.Statement.{statement}
 use Rattle.queue.proofs.Queue.push.Tie as tie
 
@@ -35,7 +36,7 @@ returns c =
       record {
         long = length-set ring ((q .head + q .len) % 64) d ∙ p .long;
         head = p .head;
-        apart = subst (λ (xs : List ℕ). Apart 64 xs) (sym e) (apart-more d (items q ring) (p .apart) (c .pre .1) (c .pre .2));
+        apart = subst (λ (xs : List ℕ). Apart 64 xs) (sym e) (apart-more d (p .apart) (c .pre .1) (c .pre .2));
         shown = λ k b. shown-more (q .waiting) (items q ring) d (c .pre .1) (p .shown) k b ∙ ap (mem k) (sym e);
       },
     )
