@@ -1,15 +1,16 @@
 -- What is known of an objective that is not refused.
 -- Assumes nothing.
-use mathlib.Core.Path.{_≡_, refl}
-use mathlib.Core.Bool.{Bool, true, false, not}
+use mathlib.Core.Path.{_≡_}
+use mathlib.Core.Bool.{Bool, false}
 use mathlib.Core.List.{List, [], _∷_}
-use Prim.Native.Nat.{ℕ, zero, suc, _+_, _<_, _≤_}
+use Prim.Native.Nat.{ℕ, _+_, _<_, _≤_}
 use native.Mathlib.Omega.{arith}
-use lib.Dec.{ltb, leb, eqb}
+use lib.Dec.{ltb, leb}
 use lib.ListN.{length, getD}
-use borrow.Author.Tests.{ltb-false, leb-false, eqb-true}
+use borrow.Author.Tests.{ltb-false, leb-false}
 use Rattle.whole.specs.Words.{some, oneOf}
-use Rattle.whole.specs.Tests.{or-false, row-off}
+use Rattle.whole.specs.Tests.{or-false, row-off, same-eqb}
+use Rattle.whole.specs.Members.{some-false, in-at}
 use Rattle.rules.specs.Objective.{Objective, objective, weightOf}
 use Rattle.rules.specs.Refuse.{firstRow, badLengths, badIndex, badFixing, tooHeavy, reduceRefusal}
 
@@ -71,19 +72,9 @@ unfolding oneOf
 tests [] e = tt
 tests (t ∷ ts) e = (or-false t (oneOf ts) e .0, tests ts (or-false t (oneOf ts) e .1))
 
-long : (m k : ℕ) → not (eqb m k) ≡ false → m ≡ k
-long m k e = by (eqb m k) refl e
-  where
-    by : (t : Bool) → eqb m k ≡ t → not t ≡ false → m ≡ k
-    by true h e = eqb-true m k h
-    by false h e = let y : _≡_ {A = ℕ} 0 1 = cc in absurd (omega arith)
-
 -- no element passes
 none : (p : ℕ → Bool) (l : List ℕ) → some p l ≡ false → (k : ℕ) → k < length l → p (getD l k 0) ≡ false
-unfolding some
-none p [] e k h = absurd (omega arith)
-none p (x ∷ l) e zero h = or-false (p x) (some p l) e .0
-none p (x ∷ l) e (suc k) h = none p l (or-false (p x) (some p l) e .1) k (omega arith)
+none p l e k h = some-false p (getD l k 0) l e (in-at l k h)
 
 pub accept : (o : Objective) (l e : ℕ) → reduceRefusal o l e ≡ 0 → Accepted o l e
 unfolding reduceRefusal badLengths badIndex badFixing tooHeavy
@@ -94,17 +85,17 @@ accept o l e h =
     record {
       fit = record {
         small = ltb-false 64 (o .n) (r .0);
-        weights = long (length (o .weights)) (o .n) (t .0);
-        fixings = long (length (o .fixings)) (o .n) (t .1 .0);
-        seconds = long (length (o .seconds)) (length (o .firsts)) (t .1 .1 .0);
-        termWeights = long (length (o .termWeights)) (length (o .firsts)) (t .1 .1 .1 .0);
+        weights = same-eqb (length (o .weights)) (o .n) (t .0);
+        fixings = same-eqb (length (o .fixings)) (o .n) (t .1 .0);
+        seconds = same-eqb (length (o .seconds)) (length (o .firsts)) (t .1 .1 .0);
+        termWeights = same-eqb (length (o .termWeights)) (length (o .firsts)) (t .1 .1 .1 .0);
         few = ltb-false 4096 (length (o .firsts)) (t .1 .1 .1 .1 .0);
         firstBelow = λ k s. leb-false (o .n) (getD (o .firsts) k 0) (none (leb (o .n)) (o .firsts) (i .0) k s);
         secondBelow = λ k s. leb-false (o .n) (getD (o .seconds) k 0) (none (leb (o .n)) (o .seconds) (i .1 .0) k s);
         bytes = λ k s. ltb-false 2 (getD (o .fixings) k 0) (none (ltb 2) (o .fixings) (r .1 .1 .1 .0) k s);
         light = ltb-false 1099511627776 (weightOf (o .weights) + weightOf (o .termWeights)) (r .1 .1 .1 .1 .1 .0);
       };
-      outLinear = long l 64 (t .1 .1 .1 .1 .1 .0);
-      outEdges = long e 4096 (t .1 .1 .1 .1 .1 .1 .0);
+      outLinear = same-eqb l 64 (t .1 .1 .1 .1 .1 .0);
+      outEdges = same-eqb e 4096 (t .1 .1 .1 .1 .1 .1 .0);
       switches = ltb-false 15 (o .switches) (r .1 .1 .1 .1 .0);
     }

@@ -12,7 +12,8 @@ use lib.ListN.{length, getD, set, take, drop, length-take}
 use lib.Seq.{drop-cons, getD-take, take-set-lt, take-set-le, set-out}
 use borrow.Author.Tests.{leb-true, ltb-true, not-false}
 use Rattle.whole.specs.Words.{from, all, allOf, bit, oneIf}
-use Rattle.whole.specs.Tests.{and-true, and-both}
+use Rattle.whole.specs.Tests.{and-true}
+use Rattle.whole.specs.Members.{all-of, all-in}
 use Rattle.rules.specs.Eliminate as rule
 use Rattle.rules.specs.Back.{place, maskOf, play, playAll, growBack}
 use Rattle.rules.specs.Record.{played, nearOf, noStep, stepAt, nearFine, stepFine, stepsOf, statesOf, sound, broken}
@@ -28,11 +29,7 @@ each (t ∷ ts) zero e = and-true t (allOf ts) e .0
 each (t ∷ ts) (suc k) e = each ts k (and-true t (allOf ts) e .1)
 
 all-weaken : (p q : ℕ → Bool) (xs : List ℕ) → ((j : ℕ) → p j ≡ true → q j ≡ true) → all p xs ≡ true → all q xs ≡ true
-unfolding all
-all-weaken p q [] w e = refl
-all-weaken p q (x ∷ xs) w e =
-    let h = and-true (p x) (all p xs) e in
-    and-both (w x (h .0)) (all-weaken p q xs w (h .1))
+all-weaken p q xs w e = all-of q xs (λ k m. w k (all-in p xs e k m))
 
 -- each neighbour of each step is below n
 abbrev pub Within : ℕ → List rule.Step → Type 0

@@ -1,7 +1,7 @@
 -- What a copy gives, from what was read; and that it is the block again, byte for byte.
 -- Assumes nothing.
 use mathlib.Core.Path.{_≡_, refl, sym, _∙_}
-use mathlib.Core.Bool.{Bool, true, false, cond, not}
+use mathlib.Core.Bool.{not}
 use mathlib.Core.List.{List, []}
 use Prim.Native.Nat.{ℕ}
 use native.Mathlib.Omega.{arith}
@@ -17,6 +17,7 @@ use Rattle.roundtrip.specs.RoundTrip.{accept, written-read}
 use Rattle.back.specs.Calls.{done}
 use Rattle.back.specs.RefusalLaws.{refused, accepted, of-unread, of-read}
 use Rattle.balecreak.specs.Calls.{copyRefusal, Copied}
+use Rattle.whole.specs.Tests.{row-off}
 
 -- ---- by what was read
 module _ (b out : List ℕ) where
@@ -34,12 +35,8 @@ module _ (b out : List ℕ) where
     copy-read exit z e = rw (eq-eqb (length out) 512 long) (of-read (λ r. []) blockOf out b read is z (accepted 0 (blockOf (read .«record»)) out exit refl e))
 
 -- ---- a copy that is not refused is the block itself; a lent slice of bytes is `Bytes`
-copied-read : (t : Bool) (k : ℕ) → cond t 9 k ≡ 0 → k ≡ 0
-copied-read true k e = absurd (omega arith)
-copied-read false k e = e
-
 pub copied-same : (b out exit : List ℕ) → Bytes b → Copied b out 0 exit → exit ≡ b
 unfolding copyRefusal readRefusal firstRow
 copied-same b out exit h g =
-    let k = copied-read (not (eqb (length out) 512)) (readRefusal b) (sym (g .number-is)) in
+    let k = row-off 9 (not (eqb (length out) 512)) (readRefusal b) (λ z. omega arith) (sym (g .number-is)) .1 in
     done (copyRefusal b (length out)) (blockOf (recordIn b)) out exit g ∙ written-read b h (accept b k .long) k

@@ -11,7 +11,7 @@ use lib.IntN.{ℤ, pos}
 use Rattle.whole.specs.Parts.{∣_∣}
 use Rattle.whole.specs.Words.{bit, bitsFrom, tab}
 use Rattle.whole.specs.Masks.{bit-none}
-use Rattle.whole.specs.Lists.{fill-step, tab-same, replicate-at}
+use Rattle.whole.specs.Lists.{fill-step, tab-same, replicate-at, tab-front}
 use Rattle.whole.specs.Counts.{shift}
 use Rattle.rules.specs.declared.Step.{Step}
 use Rattle.rules.specs.Graph.{Graph, dropTo}
@@ -52,12 +52,6 @@ choices-are best masks zero k h e = rw (e, bit-none k) (omega arith)
 choices-are best masks (suc zero) k h e = rw (e, bit-none k) (omega arith)
 choices-are best masks (suc (suc zero)) k h e = rw e
 choices-are best masks (suc (suc (suc w))) k h e = absurd (omega arith)
-
--- ---- a list by its places
-tab-front : {A : Type 0} (f : ℕ → A) (n : ℕ) → tab f (suc n) ≡ f 0 ∷ tab (λ k. f (suc k)) n
-unfolding tab
-tab-front f zero = refl
-tab-front {A} f (suc n) = ap (λ (t : List A). t ++ f (suc n) ∷ []) (tab-front f n)
 
 module _ (g : Graph) (b : List ℕ) where
   abbrev stepAt : ℕ → ℕ → rule.Step

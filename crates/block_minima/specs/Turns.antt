@@ -6,11 +6,13 @@ use mathlib.Core.List.{List, [], _∷_, map}
 use Prim.Native.Nat.{ℕ, suc, _+_, _-_, _/_, _<_, _≤_}
 use native.Mathlib.Omega.{arith}
 use native.Mathlib.Numerals.{add-one}
+use native.Mathlib.Nat.{sub-add-cancel, add-sub-cancel}
 use lib.ListN.{length, getD, take, drop}
 use lib.Seq.{drop-cons, length-take-le, getD-take}
-use lib.IntN.{ℤ, pos, _+ℤ_, +ℤ-assoc, +ℤ-idr}
+use lib.IntN.{ℤ, pos, _+ℤ_}
 use lib.Signed.{ltZ}
 use Rattle.whole.specs.Words.{odd, chosen}
+use Rattle.whole.specs.Sum.{sum-next, sum-end}
 use Rattle.rules.specs.Graph.{Graph, lin, row}
 use Rattle.rules.specs.SmallBlock.{inner, cheapest}
 use Rattle.block_minima.specs.Weights.{Listed}
@@ -27,10 +29,10 @@ module _ (list : List ℕ) (count : ℕ) (w : Listed list count) where
 
   -- one more summand of a sum over what is left, and none
   sum-turn : (f : List ℕ → ℤ) (v z : ℤ) (q : ℕ) (s t : ℤ) → q < count → f (getD list q 0 ∷ drop (q + 1) (take count list)) ≡ v +ℤ z → s +ℤ f (drop q (take count list)) ≡ t → (s +ℤ v) +ℤ z ≡ t
-  sum-turn f v z q s t l e h = +ℤ-assoc s v z ∙ sym (ap (λ (x : ℤ). s +ℤ x) (ap f (next-of q l) ∙ e)) ∙ h
+  sum-turn f v z q s t l e h = sum-next s (s +ℤ v) v (f (drop q (take count list))) z t refl (ap f (next-of q l) ∙ e) h
 
-  sum-end : (f : List ℕ → ℤ) (q : ℕ) (s t : ℤ) → f [] ≡ pos 0 → q ≡ count → s +ℤ f (drop q (take count list)) ≡ t → s ≡ t
-  sum-end f q s t z e h = sym (+ℤ-idr s) ∙ sym (ap (λ (x : ℤ). s +ℤ x) (ap f (none-left q e) ∙ z)) ∙ h
+  sum-over : (f : List ℕ → ℤ) (q : ℕ) (s t : ℤ) → f [] ≡ pos 0 → q ≡ count → s +ℤ f (drop q (take count list)) ≡ t → s ≡ t
+  sum-over f q s t z e h = sum-end s (f (drop q (take count list))) t (ap f (none-left q e) ∙ z) h
 
   pub chosen-turn : (E : ℕ → ℤ) (q rest : ℕ) (s t : ℤ) → q < count → s +ℤ chosen (map E (drop q (take count list))) rest ≡ t
       → (s +ℤ cond (odd rest) (E (getD list q 0)) (pos 0)) +ℤ chosen (map E (drop (q + 1) (take count list))) (rest / 2) ≡ t
@@ -39,7 +41,7 @@ module _ (list : List ℕ) (count : ℕ) (w : Listed list count) where
 
   pub chosen-end : (E : ℕ → ℤ) (q rest : ℕ) (s t : ℤ) → q ≡ count → s +ℤ chosen (map E (drop q (take count list))) rest ≡ t → s ≡ t
   unfolding chosen
-  chosen-end E q rest s t e h = sum-end (λ xs. chosen (map E xs) rest) q s t refl e h
+  chosen-end E q rest s t e h = sum-over (λ xs. chosen (map E xs) rest) q s t refl e h
 
   pub inner-turn : (g : Graph) (out : List ℕ) (f p rest : ℕ) (s t : ℤ) → p < count → s +ℤ inner g out f (drop p (take count list)) rest ≡ t
       → (s +ℤ cond (odd rest) (lin g (getD list p 0) +ℤ chosen (row g (getD list p 0) out) f +ℤ chosen (row g (getD list p 0) (drop (p + 1) (take count list))) (rest / 2)) (pos 0))
@@ -49,7 +51,7 @@ module _ (list : List ℕ) (count : ℕ) (w : Listed list count) where
 
   pub inner-end : (g : Graph) (out : List ℕ) (f p rest : ℕ) (s t : ℤ) → p ≡ count → s +ℤ inner g out f (drop p (take count list)) rest ≡ t → s ≡ t
   unfolding inner
-  inner-end g out f p rest s t e h = sum-end (λ xs. inner g out f xs rest) p s t refl e h
+  inner-end g out f p rest s t e h = sum-over (λ xs. inner g out f xs rest) p s t refl e h
 
 -- the cheapest of one mask more
 pub cheapest-turn : (c : ℕ → ℤ) (m best : ℕ) (t : Bool) → best ≡ cheapest c m → ltZ (c (m + 1)) (c best) ≡ t → cheapest c (m + 1) ≡ cond t (m + 1) best
@@ -61,8 +63,8 @@ pub cheapest-next : (c : ℕ → ℤ) (m best : ℕ) (t : Bool) → 1 ≤ m → 
 cheapest-next c m best t l e h =
     ap (cheapest c) up ∙ cheapest-turn c (m - 1) best t e (ap (λ (k : ℕ). ltZ (c k) (c best)) down ∙ h) ∙ ap (λ (k : ℕ). cond t k best) down
   where
-    up : m + 1 - 1 ≡ m - 1 + 1
-    up = omega arith
-
     down : m - 1 + 1 ≡ m
-    down = omega arith
+    down = sub-add-cancel l
+
+    up : m + 1 - 1 ≡ m - 1 + 1
+    up = add-sub-cancel m 1 ∙ sym down

@@ -3,16 +3,17 @@
 use mathlib.Core.Path.{_≡_, sym, ap, ap₂, _∙_}
 use mathlib.Core.Bool.{Bool, cond, _&&_}
 use mathlib.Core.List.{List, map}
-use Prim.Native.Nat.{ℕ, _+_, _*_, _-_, _/_, _%_, _<_, _≤_}
+use Prim.Native.Nat.{ℕ, _+_, _*_, _-_, _<_, _≤_}
 use native.Mathlib.Omega.{arith}
 use lib.Dec.{ltb}
 use lib.ListN.{length, getD, replicate, length-map, List·getD-append}
 use lib.IntN.{ℤ, pos}
 use borrow.Author.Tests.{lt-ltb}
 use Rattle.whole.specs.Tests.{and-both}
-use Rattle.whole.specs.Lists.{tab-map, tab-at}
+use Rattle.whole.specs.Lists.{tab-map, tab-at, map-at}
 use Rattle.whole.specs.Pigeon.{pigeon}
 use Rattle.whole.specs.Members.{apart-those, apart-upto}
+use Rattle.whole.specs.Cells.{row-at, column-at}
 use Rattle.rules.specs.Graph.{Graph, lin, edge, active, actives}
 use Rattle.rules.specs.Outcome.{linearOut, cell, edgeOut}
 use Rattle.meaning.specs.Cost.{costOf}
@@ -20,7 +21,6 @@ use Rattle.meaning.specs.CostLaws.{cost}
 use Rattle.meaning.specs.Stands.{Fine, gone-of}
 use Rattle.demand_three.specs.Demands.{isOne}
 use Rattle.demand_three.specs.Places.{cost-places, cost-same}
-use Rattle.demand_three.specs.Plans.{map-at}
 
 -- the k-th remaining decision
 abbrev rest : Graph → ℕ → ℕ
@@ -36,11 +36,9 @@ pub edge-at : (g : Graph) (i j : ℕ) → length (actives g) ≤ 64 → i < leng
     → getD (edgeOut g) (64 * i + j) (pos 0) ≡ edge g (getD (actives g) i 0) (getD (actives g) j 0)
 unfolding edgeOut cell
 edge-at g i j few li lj =
-    let whole : (64 * i + j) / 64 ≡ i = omega arith in
-    let part : (64 * i + j) % 64 ≡ j = omega arith in
     ap (λ (l : List ℤ). getD l (64 * i + j) (pos 0)) (tab-map (cell g (actives g)) 4096)
     ∙ tab-at (cell g (actives g)) 4096 (64 * i + j) (pos 0) (omega arith)
-    ∙ ap₂ (λ (a b : ℕ). cond (ltb a (length (actives g)) && ltb b (length (actives g))) (edge g (rest g a) (rest g b)) (pos 0)) whole part
+    ∙ ap₂ (λ (a b : ℕ). cond (ltb a (length (actives g)) && ltb b (length (actives g))) (edge g (rest g a) (rest g b)) (pos 0)) (row-at i j (omega arith)) (column-at i j (omega arith))
     ∙ ap (λ (t : Bool). cond t (edge g (rest g i) (rest g j)) (pos 0)) (and-both (lt-ltb i (length (actives g)) li) (lt-ltb j (length (actives g)) lj))
 
 pub outputs-cost : (g : Graph) → Fine g → (x : ℕ → Bool) (answer : List ℕ) → length answer ≡ length (actives g) → ((k : ℕ) → k < length (actives g) → x (getD (actives g) k 0) ≡ isOne answer k)

@@ -5,36 +5,27 @@ use mathlib.Core.Bool.{Bool, true, false, cond}
 use mathlib.Core.List.{List, [], _∷_, _++_, append-nil}
 use Prim.Native.Nat.{ℕ, zero, suc, _+_, _-_, _<_, _≤_}
 use native.Mathlib.Omega.{arith}
-use native.Mathlib.Nat.{not-suc-le-zero, add-zero, zero-add, suc-add}
+use native.Mathlib.Nat.{not-suc-le-zero, zero-add}
 use native.Mathlib.Decide.{decLt}
 use native.Mathlib.Numerals.{suc-eq-add-one}
 use lib.ListN.{length, getD, length-append, List·getD-append}
 use lib.Seq.{getD-at}
 use lib.IntN.{ℤ, pos, _+ℤ_, +ℤ-idr}
 use Rattle.whole.specs.Words.{from, upto, those}
-use Rattle.whole.specs.Those.{those-append}
+use Rattle.whole.specs.Those.{those-append, from-append, those-last}
 use Rattle.whole.specs.Members.{apart-at, apart-those, apart-upto}
 use Rattle.whole.specs.Sum.{Σ<, Σ-cong}
-use Rattle.whole.specs.Counts.{shift}
 use Rattle.meaning.specs.Cost.{when, when-zero, row-zero, rowCost, costOf}
 
 -- ---- those that pass
-from-append : (k a b : ℕ) → from k (a + b) ≡ from k a ++ from (k + a) b
-unfolding from
-from-append k zero b = ap₂ from (sym (add-zero k)) (zero-add b)
-from-append k (suc a) b =
-    ap (from k) (suc-add a b) ∙ ap (λ (l : List ℕ). k ∷ l) (from-append (suc k) a b ∙ ap (λ (m : ℕ). from (suc k) a ++ from m b) (shift k a))
-
 module _ (p : ℕ → Bool) where
   -- how many pass below m
   abbrev pub count : ℕ → ℕ
   count m = length (those p (upto m))
 
   one-more : (m : ℕ) → those p (upto (suc m)) ≡ those p (upto m) ++ cond (p m) (m ∷ []) []
-  unfolding those from
-  one-more m =
-      ap (λ (k : ℕ). those p (from 0 k)) (suc-eq-add-one m) ∙ ap (those p) (from-append 0 m 1) ∙ those-append p (upto m) (from (0 + m) 1)
-      ∙ ap (λ (k : ℕ). those p (upto m) ++ cond (p k) (k ∷ []) []) (zero-add m)
+  unfolding those
+  one-more m = ap (λ (k : ℕ). those p (upto k)) (suc-eq-add-one m) ∙ those-last p m
 
   -- one that passes stands at the place that the count below it says
   pub place-of : (n m : ℕ) → m < n → p m ≡ true → getD (those p (upto n)) (count m) 0 ≡ m

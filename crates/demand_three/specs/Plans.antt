@@ -13,8 +13,9 @@ use lib.ListN.{length, getD, set, take, length-set, length-map}
 use lib.Seq.{getD-set-same, getD-set-other, set-out, take-at}
 use borrow.Author.Tests.{eqb-true, eqb-false}
 use Rattle.whole.specs.Words.{from, mem, those, bit, oneIf}
-use Rattle.whole.specs.Tests.{cases}
+use Rattle.whole.specs.Tests.{cases, at-most-one}
 use Rattle.whole.specs.Members.{in-head, in-tail, out-cons}
+use Rattle.whole.specs.Lists.{map-at}
 use Rattle.rules.specs.Eliminate.{Step}
 use Rattle.rules.specs.Back.{place, maskOf, play, playAll, remainingOf, project}
 use Rattle.meaning.specs.EliminateLaws.{maskAt}
@@ -22,14 +23,8 @@ use Rattle.meaning.specs.BlockCost.{mask-ext}
 use Rattle.meaning.specs.BlockSteps.{played}
 use Rattle.sound_run.specs.Sound.{decisions}
 use Rattle.demand_three.specs.Demands.{isOne}
-use Rattle.run_laws.specs.InOrderLaws.{at-most-one}
 
 -- ---- lists
-pub map-at : {A B : Type 0} (f : A → B) (xs : List A) (k : ℕ) (a : A) (b : B) → k < length xs → getD (map f xs) k b ≡ f (getD xs k a)
-map-at f [] k a b h = absurd (not-suc-le-zero h)
-map-at f (x ∷ xs) zero a b h = refl
-map-at f (x ∷ xs) (suc k) a b h = map-at f xs k a b (omega arith)
-
 getD-tail : (xs : List ℕ) (k : ℕ) → getD (tail xs) k 0 ≡ getD xs (suc k) 0
 getD-tail [] k = refl
 getD-tail (x ∷ xs) k = refl
@@ -70,8 +65,8 @@ place-bits [] answer h i = omega arith
 place-bits (s ∷ ss) answer h i = go (eqb s 2) i (place-bits ss (tail answer) (λ k. rw (getD-tail answer k) (h (suc k)))) (place-bits ss answer h)
   where
     one-or-none : (b : Bool) → cond b 1 0 ≤ 1
-    one-or-none true = omega arith
-    one-or-none false = omega arith
+    one-or-none true = at-most-one true
+    one-or-none false = at-most-one false
 
     go : (b : Bool) (i : ℕ) → Bits (place ss (tail answer)) → Bits (place ss answer)
         → getD (cond b (getD answer 0 0 ∷ place ss (tail answer)) (cond (eqb s 1) 1 0 ∷ place ss answer)) i 0 ≤ 1

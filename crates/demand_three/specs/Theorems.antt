@@ -8,7 +8,7 @@ use native.Mathlib.Omega.{arith}
 use native.Mathlib.Decide.{decLt}
 use native.Mathlib.Nat.{not-suc-le-zero}
 use lib.Dec.{eqb}
-use lib.ListN.{length, getD, take, length-map}
+use lib.ListN.{length, getD, take, length-map, List·getD-eq-default}
 use lib.Signed.{_≤ℤ_}
 use Rattle.whole.specs.Words.{mem}
 use Rattle.rules.specs.Objective.{Objective}
@@ -28,18 +28,14 @@ use Rattle.sound_run.specs.SoundStart.{ended-sound}
 use Rattle.run_laws.specs.StepLaws.{steps-alive}
 use Rattle.run_laws.specs.RemainingLaws.{remaining-before}
 use Rattle.whole.specs.Members.{in-at}
+use Rattle.whole.specs.Lists.{map-at}
 use lib.Seq.{ext-getD}
 use Rattle.demand_three.specs.Demands.{isOne, FullPlan, costOfPlan, Answer, reducedCost, costOfAnswer, grownBack, projection, FirstHalf, SecondHalf, AnswerKept}
-use Rattle.demand_three.specs.Plans.{map-at, place-length, place-bits, place-fixed, place-remaining, play-length, play-other, play-all-bits, play-all-is, project-front}
+use Rattle.demand_three.specs.Plans.{place-length, place-bits, place-fixed, place-remaining, play-length, play-other, play-all-bits, play-all-is, project-front}
 use Rattle.demand_three.specs.Outputs.{outputs-cost}
 use Rattle.demand_three.specs.RunEnds.{endGraph, endSteps, shown, end-fine, end-taken, shown-long, shown-fixed, shown-remaining}
 
--- ---- reading past the end of a list
-past-end : (xs : List ℕ) (k d : ℕ) → length xs ≤ k → getD xs k d ≡ d
-past-end [] k d h = refl
-past-end (x ∷ xs) zero d h = absurd (not-suc-le-zero h)
-past-end (x ∷ xs) (suc k) d h = past-end xs k d (omega arith)
-
+-- ---- what is read in a list does not hang on what stands past its end
 in-range : (xs : List ℕ) (k d e : ℕ) → k < length xs → getD xs k d ≡ getD xs k e
 in-range [] k d e h = absurd (not-suc-le-zero h)
 in-range (x ∷ xs) zero d e h = refl
@@ -53,7 +49,7 @@ module _ (o : Objective) (fit : Fit o) where
       by (yes l) =
           let same : getD (o .fixings) k 2 ≡ getD (o .fixings) k 0 = in-range (o .fixings) k 2 0 (omega (arith, fit .fixings)) in
           ap (λ (z : ℕ). eqb z 1) (p .keeps k l (rw same at h) ∙ sym same)
-      by (no l) = absurd (bad (past-end (o .fixings) k 2 (omega (arith, fit .fixings))))
+      by (no l) = absurd (bad (List·getD-eq-default (o .fixings) 2 (omega (arith, fit .fixings))))
         where
           bad : getD (o .fixings) k 2 ≡ 2 → ⊥
           bad e = omega arith
@@ -120,7 +116,7 @@ module _ (o : Objective) (fit : Fit o) where
       where
         each : (i : ℕ) → Dec (i < length (actives (endGraph o))) → getD (map (λ i. getD plan i 0) (actives (endGraph o))) i 0 ≤ 1
         each i (yes l) = rw (map-at (λ i. getD plan i 0) (actives (endGraph o)) i 0 0 l) (p .values .bits (getD (actives (endGraph o)) i 0))
-        each i (no l) = rw (past-end (map (λ i. getD plan i 0) (actives (endGraph o))) i 0 (omega (arith, length-map (actives (endGraph o)) (λ i. getD plan i 0)))) (omega arith)
+        each i (no l) = rw (List·getD-eq-default (map (λ i. getD plan i 0) (actives (endGraph o))) 0 {n = i} (omega (arith, length-map (actives (endGraph o)) (λ i. getD plan i 0)))) (omega arith)
 
     -- (O), in the caller's words
     projected-cost : costOfPlan o (grownBack o (projection o plan)) ≤ℤ costOfPlan o plan

@@ -5,17 +5,15 @@ use mathlib.Core.List.{List, map}
 use mathlib.Core.Logic.{_≢_}
 use Prim.Native.Nat.{ℕ, _+_, _*_, _-_, _^_, _<_, _≤_}
 use native.Mathlib.Omega.{arith}
-use lib.Dec.{eqb}
 use lib.ListN.{getD}
 use lib.Bits.{bitAnd}
 use lib.Count.{trailingZeros}
-use lib.IntN.{ℤ, pos, negsuc, _+ℤ_, _-ℤ_}
+use lib.IntN.{ℤ, pos, _+ℤ_, _-ℤ_}
 use lib.Signed.{ltZ, leZ}
 use mir.Syntax.{w64}
 use mir.Val.{SFits, toZ, ofZ}
-use borrow.Author.Tests.{ne-eqb}
 use Rattle.whole.specs.Parts.{∣_∣}
-use Rattle.whole.specs.Ints.{ints, fit-lo, rd}
+use Rattle.whole.specs.Ints.{ints, rd}
 use Rattle.whole.specs.Cmp.{lt-ind, below0-abs, above0-abs}
 use Rattle.whole.specs.Words.{isZeroZ, below0, above0}
 use Rattle.whole.specs.Masks.{these, these-end as ended}
@@ -25,11 +23,6 @@ use Rattle.whole.specs.Fits.{fit, sum-fits}
 use Rattle.low_degree.proofs.Laws.{read-below}
 use Rattle.dominant_edge.specs.Answer.{verdictOf, testOf}
 use Rattle.dominant_edge.proofs.Taking.{parts}
-
--- a test for 0, of the bits
-pub zero-test : (z : ℤ) → SFits w64 z → eqb (ofZ w64 z) 0 ≡ isZeroZ z
-zero-test (pos n) f = refl
-zero-test (negsuc n) f = ne-eqb (ofZ w64 (negsuc n)) 0 (λ e. omega (arith, fit-lo f))
 
 -- ---- the bounds
 pub above-is : (w : ℤ) → w -ℤ below0 w ≡ above0 w
@@ -84,12 +77,6 @@ test-is g i j l h w p q r = rw (p, q, r) (go (ltZ (pos 0) (edge g i j)) (lo g i)
     go false l h w = (refl, refl)
 
 -- ---- one turn of the bounds, as the code makes it: kept and read back
-pub sum-next : (x x′ v n n′ s : ℤ) → x′ ≡ x +ℤ v → n ≡ v +ℤ n′ → x +ℤ n ≡ s → x′ +ℤ n′ ≡ s
-sum-next x x′ v n n′ s p q e = rw p (simp ints (omega (arith, simp ints at q, simp ints at e)))
-
-pub sum-end : (x n y : ℤ) → n ≡ pos 0 → x +ℤ n ≡ y → x ≡ y
-sum-end x n y p e = simp ints (omega (arith, simp ints at e, simp ints at p))
-
 pub record Turn (l h w r : ℤ) : Type 0 where
   pub above-fits : SFits w64 (toZ w64 (ofZ w64 w) -ℤ toZ w64 (ofZ w64 r))
   pub lo-fits : SFits w64 (l +ℤ toZ w64 (ofZ w64 r))

@@ -3,7 +3,7 @@ use mathlib.Core.Path.{_≡_, refl, sym, ap, _∙_, subst}
 use mathlib.Core.Bool.{Bool, true, false, cond, true≢false}
 use mathlib.Core.List.{List, [], _∷_, _++_}
 use mathlib.Core.Logic.{_≢_}
-use Prim.Native.Nat.{ℕ, zero, suc, _+_, _*_, _-_, _^_, _<_, _≤_}
+use Prim.Native.Nat.{ℕ, _+_, _*_, _-_, _^_, _<_, _≤_}
 use native.Mathlib.Omega.{arith}
 use lib.Dec.{eqb}
 use lib.Bits.{bitAnd}
@@ -16,7 +16,7 @@ use borrow.Author.Tests.{eq-eqb, ne-eqb}
 use Rattle.whole.specs.Parts.{∣_∣}
 use Rattle.whole.specs.Ints.{ints, rd}
 use Rattle.whole.specs.Words.{mem, tab}
-use Rattle.whole.specs.Lists.{tab-at}
+use Rattle.whole.specs.Lists.{tab-at, padded}
 use Rattle.whole.specs.Cells.{cells-other}
 use Rattle.whole.specs.Masks.{these, these-below, these-apart, first-in}
 use Rattle.whole.specs.Members.{in-tail, apart-new}
@@ -176,16 +176,9 @@ module _ (w : ℤ) (h : ∣ w ∣ ≤ 2 ^ 59) where
 pub mask-inside : (g : Graph) (i m t : ℕ) → these m ≡ neighbours g i → mem t (these m) ≡ true → t < g .n
 mask-inside g i m t s q = mem-inside g i t (ap (mem t) (sym s) ∙ q)
 
-padded : (xs : List ℤ) (c k : ℕ) → getD (xs ++ replicate c (pos 0)) k (pos 0) ≡ getD xs k (pos 0)
-padded [] zero k = refl
-padded [] (suc c) zero = refl
-padded [] (suc c) (suc k) = padded [] c k
-padded (x ∷ xs) c zero = refl
-padded (x ∷ xs) c (suc k) = padded xs c k
-
 module _ (g : Graph) (i c : ℕ) (row : List ℤ) (r : row ≡ tab (λ j. edge g i j) (g .n) ++ replicate c (pos 0)) where
   row-at : (k : ℕ) → getD row k (pos 0) ≡ getD (tab (λ j. edge g i j) (g .n)) k (pos 0)
-  row-at k = ap (λ (x : List ℤ). getD x k (pos 0)) r ∙ padded (tab (λ j. edge g i j) (g .n)) c k
+  row-at k = ap (λ (x : List ℤ). getD x k (pos 0)) r ∙ padded (tab (λ j. edge g i j) (g .n)) (pos 0) c k
 
   pub row-small : {b : ℕ} → ((k : ℕ) → ∣ getD (g .edges) k (pos 0) ∣ ≤ b) → Small b row
   row-small {b} h = record { each = λ k. omega (arith, ap (λ (z : ℤ). ∣ z ∣) (row-at k), small-tab {b = b} (λ j. edge g i j) (g .n) (λ j. h (64 * i + j)) .each k) }

@@ -1,12 +1,12 @@
 -- Turns of the loops that build and fix, and bounds.
-use mathlib.Core.Path.{_≡_, sym, ap, _∙_}
+use mathlib.Core.Path.{_≡_, ap, _∙_}
 use mathlib.Core.Bool.{Bool, true, false, cond, not}
 use mathlib.Core.List.{List, _++_}
 use Prim.Native.Nat.{ℕ, suc, _+_, _*_, _-_, _<_, _≤_}
 use native.Mathlib.Omega.{arith}
 use native.Mathlib.Numerals.{add-one}
 use lib.ListN.{length, getD, set, drop, take, replicate, drop-of-length-le}
-use lib.Seq.{getD-set-other, drop-cons, take-suc, take-length, set-at, append-snoc, length-take-le}
+use lib.Seq.{getD-set-other, drop-cons, take-length}
 use lib.Dec.{ltb}
 use borrow.Author.Tests.{eq-eqb, ne-eqb}
 use lib.IntN.{ℤ, pos, natAbs, _+ℤ_}
@@ -45,11 +45,6 @@ module _ (is js : List ℕ) (ws : List ℤ) (k : ℕ) (g : Graph) where
   terms-end h = rw (drop-of-length-le is h)
 
 -- a list is copied to the front of another
-pub front-step : {A : Type 0} (w o₀ o : List A) (k : ℕ) (v d : A) → k < length w → k < length o₀ → o ≡ take k w ++ drop k o₀ → v ≡ getD w k d → set o k v ≡ take (k + 1) w ++ drop (k + 1) o₀
-front-step {A} w o₀ o k v d h m e f =
-    rw (add-one, take-suc w k d h, e, f, drop-cons o₀ k d m)
-    (set-at (take k w) _ (drop (suc k) o₀) (getD w k d) k (length-take-le k w (omega arith)) ∙ sym (append-snoc (take k w) (getD w k d) (drop (suc k) o₀)))
-
 pub front-end : {A : Type 0} (w o : List A) (k : ℕ) → k ≡ length w → take k w ++ drop k o ≡ w ++ drop (length w) o
 front-end w o k e = rw (e, take-length)
 

@@ -5,9 +5,10 @@ use mathlib.Core.Bool.{Bool, true, not}
 use mathlib.Core.List.{List, [], _∷_, _++_, map, map-append}
 use Prim.Native.Nat.{ℕ, zero, suc, _+_, _*_, _<_, _≤_}
 use native.Mathlib.Omega.{arith}
-use lib.ListN.{length, getD, set, length-append, length-map}
+use lib.ListN.{length, getD, set, take, length-append, length-map}
 use lib.IntN.{ℤ, pos}
-use Rattle.whole.specs.Words.{isZeroZ, mem}
+use Rattle.whole.specs.Words.{isZeroZ, tab, mem}
+use Rattle.whole.specs.Lists.{held-whole}
 use Rattle.whole.specs.Members.{in-at, low-at}
 use Rattle.rules.specs.Graph.{Graph, row, neighbours}
 use Rattle.meaning.specs.Growth.{neighbours-apart, in-nbrs}
@@ -23,11 +24,8 @@ module _ {A : Type 0} (z : A) where
   three-at xs (suc (suc (suc k))) h = absurd (omega arith)
 
   three-whole : (xs : List A) → length xs ≡ 3 → three xs z ≡ xs
-  three-whole [] h = absurd (omega arith)
-  three-whole (a ∷ []) h = absurd (omega arith)
-  three-whole (a ∷ b ∷ []) h = absurd (omega arith)
-  three-whole (a ∷ b ∷ c ∷ []) h = refl
-  three-whole (a ∷ b ∷ c ∷ d ∷ xs) h = absurd (omega arith)
+  unfolding tab
+  three-whole xs h = ap (λ (n : ℕ). take n (three xs z)) (sym h) ∙ held-whole z 3 xs (omega arith)
 
   three-more : (xs : List A) (v : A) → length xs < 3 → set (three xs z) (length xs) v ≡ three (xs ++ (v ∷ [])) z
   three-more [] v h = refl

@@ -1,20 +1,20 @@
 -- Absorbing, over at most two neighbours.
 -- Assumes nothing.
-use mathlib.Core.Path.{_≡_, refl}
+use mathlib.Core.Path.{_≡_}
 use mathlib.Core.List.{List, [], _∷_}
 use Prim.Native.Nat.{ℕ, _^_, _<_, _≤_}
 use native.Mathlib.Omega.{arith}
 use lib.ListN.{length, getD, take}
 use lib.IntN.{ℤ}
+use Rattle.whole.specs.Words.{tab}
+use Rattle.whole.specs.Lists.{held-whole}
 use Rattle.rules.specs.Graph.{Graph}
 use Rattle.rules.specs.Eliminate.{absorb}
 
 -- the first two places hold the whole of a list of at most two
 pub pair-whole : (xs : List ℕ) → length xs ≤ 2 → take (length xs) (getD xs 0 0 ∷ getD xs 1 0 ∷ []) ≡ xs
-pair-whole [] h = refl
-pair-whole (x ∷ []) h = refl
-pair-whole (x ∷ y ∷ []) h = refl
-pair-whole (x ∷ y ∷ z ∷ xs) h = absurd (omega arith)
+unfolding tab
+pair-whole xs h = held-whole 0 2 xs h
 
 -- it looks at the masks of its neighbours only
 pub absorb-same : (t u : ℕ → ℤ) (ns : List ℕ) (g : Graph) → length ns ≤ 2 → ((m : ℕ) → m < 2 ^ length ns → t m ≡ u m) → absorb t ns g ≡ absorb u ns g

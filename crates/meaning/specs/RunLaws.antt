@@ -1,17 +1,17 @@
 -- Laws of the run that need nothing of the reductions: each thing due uses one unit, and a run that is cut short has used them all.
 -- Assumes nothing.
-use mathlib.Core.Path.{_≡_, refl, sym, ap, _∙_, subst}
+use mathlib.Core.Path.{_≡_, refl, sym, ap, _∙_}
 use mathlib.Core.Bool.{true, false, cond}
 use mathlib.Core.List.{List, [], _∷_, _++_, append-assoc, append-nil}
 use native.Mathlib.Nat.{not-suc-le-zero, le-of-suc-le-suc}
 use Rattle.rules.specs.Eliminate.{Step}
 use Prim.Native.Nat.{ℕ, zero, suc, _+_, _≤_}
 use native.Mathlib.Omega.{arith}
-use lib.Dec.{T}
 use Rattle.rules.specs.SmallBlock.{Block, none, members, findBlock}
 use Rattle.rules.specs.Outcome.{units}
 use Rattle.rules.specs.Run.{State, Way, inactive, low, into, three, failed, idle, way, reduced, skipped, go, takeFront, blocked, Next, over, due, dueBlock, dueAt, next, Ended, onward, run}
 use Rattle.rules.specs.Objective.{smallBlock}
+use Rattle.whole.specs.Tests.{clash}
 
 go-units : (w : Way) (sw i : ℕ) (s : State) → units (go w sw i s) ≡ units s
 unfolding go reduced skipped
@@ -41,20 +41,17 @@ due-one sw s (i ∷ q) = omega (arith, go-units (way sw (s .graph) i) sw i (take
 unfoldable pub Used : ℕ → State → Ended → Type 0
 Used b s e = (units (e .state) ≤ units s + b) × (e .complete ≡ false → units (e .state) ≡ units s + b)
 
-true-false : {A : Type 0} → true ≡ false → A
-true-false {A} p = absurd (subst T p tt)
-
 pub run-used : (b sw : ℕ) (s : State) → Used b s (run b sw s)
 unfolding Used OneMore run
 run-used zero sw s = end (next sw s)
   where
     end : (x : Next) → Used zero s (onward x s (λ t. record { state = s; complete = false }))
-    end over = (omega arith, λ p. true-false p)
+    end over = (omega arith, λ p. clash {b = true} refl p)
     end (due t) = (omega arith, λ p. omega arith)
 run-used (suc b) sw s = more (next sw s) (due-one sw s (s .queue)) (λ t. run-used b sw t)
   where
     more : (x : Next) → OneMore s x → ((t : State) → Used b t (run b sw t)) → Used (suc b) s (onward x s (λ t. run b sw t))
-    more over o r = (omega arith, λ p. true-false p)
+    more over o r = (omega arith, λ p. clash {b = true} refl p)
     more (due t) o r = (omega (arith, r t .0), λ p. omega (arith, r t .1 p))
 
 -- ---- more budget, same path

@@ -57,12 +57,9 @@ stands-here g f = record { size = refl; states = refl; fine = f }
 pub gone-of : (g : Graph) (i : ℕ) → Fine g → i < g .n → active g i ≡ false → Gone g i
 gone-of g i f li h = record {
   weight = f .light i h;
-  across = λ j lj. zero-of (edge g i j) (on-not (isZeroZ (edge g i j)) (refuse (not (isZeroZ (edge g i j))) (λ t. clash (f .neat .ends i j (in64 (f .shaped) i li) (in64 (f .shaped) j lj) (off (edge g i j) t) .0 .1) h)));
-  down = λ j lj. zero-of (edge g j i) (on-not (isZeroZ (edge g j i)) (refuse (not (isZeroZ (edge g j i))) (λ t. clash (f .neat .ends j i (in64 (f .shaped) j lj) (in64 (f .shaped) i li) (off (edge g j i) t) .1 .1) h)));
+  across = λ j lj. zero-of (edge g i j) (on-not (isZeroZ (edge g i j)) (refuse (not (isZeroZ (edge g i j))) (λ t. clash (f .neat .ends i j (in64 (f .shaped) i li) (in64 (f .shaped) j lj) (off-not (isZeroZ (edge g i j)) t) .0 .1) h)));
+  down = λ j lj. zero-of (edge g j i) (on-not (isZeroZ (edge g j i)) (refuse (not (isZeroZ (edge g j i))) (λ t. clash (f .neat .ends j i (in64 (f .shaped) j lj) (in64 (f .shaped) i li) (off-not (isZeroZ (edge g j i)) t) .1 .1) h)));
 }
-  where
-    off : (z : ℤ) → not (isZeroZ z) ≡ true → isZeroZ z ≡ false
-    off z t = off-not (isZeroZ z) t
 
 -- ---- the atomic updates
 module _ {n : ℕ} {ss : List ℕ} where

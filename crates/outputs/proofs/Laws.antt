@@ -1,19 +1,19 @@
 -- Turns of the loop that lists the remaining decisions; what the outputs are, in the rules' words.
-use Prim.Native.Nat.{ℕ, zero, suc, _+_, _*_, _-_, _/_, _%_, _<_, _≤_}
+use Prim.Native.Nat.{ℕ, _+_, _*_, _-_, _/_, _%_, _<_, _≤_}
 use mathlib.Core.Path.{_≡_, refl, ap, sym, _∙_}
 use mathlib.Core.Bool.{Bool, true, false, cond, _&&_}
-use mathlib.Core.List.{List, [], _∷_, _++_, map}
+use mathlib.Core.List.{List, _++_, map}
 use native.Mathlib.Omega.{arith}
 use native.Mathlib.Decide.{ℕ-discrete, decLt}
-use native.Mathlib.Numerals.{add-one}
 use lib.Dec.{ltb}
 use lib.ListN.{getD, set, take, length, replicate, length-set, length-append, length-replicate, length-map, getD-replicate, List·getD-append}
-use lib.Seq.{take-suc-set, append-snoc, getD-take, getD-set-same, getD-set-other, length-take-le, ext-getD}
+use lib.Seq.{getD-take, getD-set-same, getD-set-other, length-take-le, ext-getD}
 use lib.IntN.{ℤ, pos}
 use borrow.Author.Tests.{ltb-true, ltb-false}
 use Rattle.whole.specs.Words.{those, from, upto, tab}
-use Rattle.whole.specs.Lists.{tab-at, tab-map, length-tab, tab-same}
+use Rattle.whole.specs.Lists.{tab-at, tab-map, length-tab, tab-same, map-at, past, replicate-at}
 use Rattle.whole.specs.Those.{rest-more}
+use Rattle.whole.specs.Stores.{store-more}
 pub use Rattle.whole.specs.Those.{rest-same as those-same, rest-end as those-end}
 use Rattle.rules.specs.Graph.{Graph, actives}
 use Rattle.rules.specs.Outcome.{linearOut, cell, edgeOut}
@@ -24,12 +24,10 @@ module _ (p : ℕ → Bool) (n i : ℕ) where
   -- a decision joins the list
   pub listed : (l : List ℕ) (m : ℕ) (all : List ℕ) → m < length l → i < n → p i ≡ true → take m l ++ those p (from i (n - i)) ≡ all → take (m + 1) (set l m i) ++ those p (from (i + 1) (n - (i + 1))) ≡ all
   listed l m all h k e d =
-      rw (add-one, take-suc-set l m i h) (append-snoc (take m l) i (those p (from (i + 1) (n - (i + 1)))) ∙ ap (λ (t : List ℕ). take m l ++ t) (sym (rest-more p n i k e)) ∙ d)
+      store-more l m i (those p (from (i + 1) (n - (i + 1)))) h ∙ ap (λ (t : List ℕ). take m l ++ t) (sym (rest-more p n i k e)) ∙ d
 
 pub zero-at : (n k : ℕ) → getD (replicate n 0) k 0 < 64
-zero-at zero k = omega arith
-zero-at (suc n) zero = omega arith
-zero-at (suc n) (suc k) = zero-at n k
+zero-at n k = omega (arith, replicate-at {A = ℕ} 0 n k)
 
 -- the first n of the list are decisions before i, and turned round; a decision that is not there has the place 64
 pub record Listing (i : ℕ) (list places : List ℕ) (n : ℕ) : Type 0 where
@@ -110,18 +108,6 @@ module _ (i : ℕ) (list places : List ℕ) (n : ℕ) (w : Listing i list places
     }
 
 -- the outputs
-map-at : (f : ℕ → ℤ) (l : List ℕ) (n : ℕ) → n < length l → getD (map f l) n (pos 0) ≡ f (getD l n 0)
-map-at f [] n h = absurd (omega arith)
-map-at f (x ∷ l) zero h = refl
-map-at f (x ∷ l) (suc n) h = map-at f l n (omega arith)
-
-pad-at : (a : List ℤ) (m i : ℕ) → length a ≤ i → getD (a ++ replicate m (pos 0)) i (pos 0) ≡ pos 0
-pad-at [] zero i h = refl
-pad-at [] (suc m) zero h = refl
-pad-at [] (suc m) (suc i) h = pad-at [] m i (omega arith)
-pad-at (x ∷ a) m zero h = absurd (omega arith)
-pad-at (x ∷ a) m (suc i) h = pad-at a m i (omega arith)
-
 test : (S : Bool → Type 0) (a b : ℕ) → (a < b → S true) → (b ≤ a → S false) → S (ltb a b)
 test S a b f g = go (ltb a b) refl
   where
@@ -149,10 +135,10 @@ module _ (r : Remaining) (ok : Places (r .list) (r .len)) where
         (λ s.
         let m : k < length (map (λ i. getD l i (pos 0)) (rest r)) = rw (length-map, length-rest) s in
         let n : k < length (rest r) = rw length-rest s in
-        sym (List·getD-append (map (λ i. getD l i (pos 0)) (rest r)) (replicate (64 - length (rest r)) (pos 0)) (pos 0) k m ∙ map-at (λ i. getD l i (pos 0)) (rest r) k n ∙ ap (λ (i : ℕ). getD l i (pos 0)) (rest-at k s)))
+        sym (List·getD-append (map (λ i. getD l i (pos 0)) (rest r)) (replicate (64 - length (rest r)) (pos 0)) (pos 0) k m ∙ map-at (λ i. getD l i (pos 0)) (rest r) k 0 (pos 0) n ∙ ap (λ (i : ℕ). getD l i (pos 0)) (rest-at k s)))
         (λ s.
         let m : length (map (λ i. getD l i (pos 0)) (rest r)) ≤ k = rw (length-map, length-rest) s in
-        sym (pad-at (map (λ i. getD l i (pos 0)) (rest r)) (64 - length (rest r)) k m))
+        sym (past (map (λ i. getD l i (pos 0)) (rest r)) (pos 0) (64 - length (rest r)) k m))
 
     pub linear-out : tab (linearAt l (r .list) (r .len)) 64 ≡ linearOf l (rest r)
     linear-out =

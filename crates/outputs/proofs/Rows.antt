@@ -12,36 +12,29 @@ use lib.IntN.{ℤ, pos}
 use lib.ListN.{getD, set, length, replicate, length-replicate}
 use lib.Seq.{getD-set-same, getD-set-other, ext-getD}
 use borrow.Author.Tests.{le-ltb, lt-ltb}
-use Rattle.whole.specs.Words.{bit, mem, tab}
-use Rattle.whole.specs.Tests.{clash, refuse, on-not}
-use Rattle.whole.specs.Members.{in-cons}
-use Rattle.whole.specs.Masks.{these, mem-these, bit-none, turn}
+use Rattle.whole.specs.Words.{bit, tab}
+use Rattle.whole.specs.Tests.{refuse, on-not}
+use Rattle.whole.specs.Masks.{bit-none, turn, lowest-off}
 use Rattle.whole.specs.Cmp.{zero-of}
 use Rattle.whole.specs.Lists.{length-tab, tab-at, replicate-at}
+use Rattle.whole.specs.Cells.{row-at, column-at}
 use Rattle.outputs.specs.Out.{Places, Turned, Seen, Row, edgeAt}
 
 -- ---- an entry, by its row and column
-row : (a b : ℕ) → b < 64 → (64 * a + b) / 64 ≡ a
-row a b h = omega arith
-
-column : (a b : ℕ) → b < 64 → (64 * a + b) % 64 ≡ b
-column a b h = omega arith
-
 module _ (e : List ℤ) (list : List ℕ) (n : ℕ) where
   edge-at : (a b : ℕ) → a < n → b < n → b < 64 → edgeAt e list n (64 * a + b) ≡ getD e (64 * getD list a 0 + getD list b 0) (pos 0)
-  edge-at a b h k l = rw (row a b l, column a b l, lt-ltb a n h, lt-ltb b n k)
+  edge-at a b h k l = rw (row-at a b l, column-at a b l, lt-ltb a n h, lt-ltb b n k)
 
   -- past the last column, past the last row
   edge-past : (a b : ℕ) → a < n → n ≤ b → b < 64 → edgeAt e list n (64 * a + b) ≡ pos 0
-  edge-past a b h k l = rw (row a b l, column a b l, lt-ltb a n h, le-ltb b n k)
+  edge-past a b h k l = rw (row-at a b l, column-at a b l, lt-ltb a n h, le-ltb b n k)
 
   edge-below : (k : ℕ) → 64 * n ≤ k → edgeAt e list n k ≡ pos 0
   edge-below k h = let q : n ≤ k / 64 = omega arith in rw (le-ltb (k / 64) n q)
 
 -- a decision that is not the first of a mask, and not of the others, is not of the mask
 neither : (m k : ℕ) → m ≢ 0 → m < 2 ^ 64 → k < 64 → k ≢ trailingZeros 64 m → bit (bitAnd m (m - 1)) k ≡ false → bit m k ≡ false
-neither m k d l h n z = refuse (bit m k) (λ t. in-cons k (trailingZeros 64 m) (these (bitAnd m (m - 1)))
-    (ap (mem k) (sym (turn m d l .parts)) ∙ mem-these m k h ∙ t) n (λ q. clash (sym (mem-these (bitAnd m (m - 1)) k h) ∙ q) z))
+neither m k d l h n z = refuse (bit m k) (λ t. n (lowest-off m d l k h t z))
 
 -- ---- row a of o, which was o₀: the neighbours that the mask does not hold are stored
 pub record Storing (f : ℕ → ℤ) (list : List ℕ) (n a mask : ℕ) (o₀ o : List ℤ) : Type 0 where
@@ -75,7 +68,7 @@ module _ (e : List ℤ) (list : List ℕ) (n i a : ℕ) (p : Places list n) (at 
         → Storing (edgeAt e list n) list n a (bitAnd m (m - 1)) o₀ (set o (64 * a + getD places (trailingZeros 64 m) 0) v)
     storing-more v r k x = record {
       within = λ z b c g. by z b c g (ℕ-discrete b place);
-      others = λ j c. getD-set-other o (64 * a + place) j v (pos 0) (λ q. c (ap (λ (u : ℕ). u / 64) q ∙ row a place low)) ∙ w .others j c;
+      others = λ j c. getD-set-other o (64 * a + place) j v (pos 0) (λ q. c (ap (λ (u : ℕ). u / 64) q ∙ row-at a place low)) ∙ w .others j c;
     }
       where
         low : place < 64

@@ -14,7 +14,8 @@ use borrow.Author.Tests.{eq-eqb, ne-eqb}
 use Rattle.whole.specs.Words.{from, those}
 use Rattle.whole.specs.Those.{rest-more, rest-same, rest-end}
 use Rattle.rules.specs.Back.{place, remainingOf, project}
-use Rattle.plans.proofs.ListLaws.{store-more, tail-drop, take-replicate}
+use Rattle.whole.specs.Stores.{store-more}
+use Rattle.plans.proofs.ListLaws.{tail-drop, take-replicate}
 
 -- the first n of 64 states, and the one at i
 pub record Front (states : List ℕ) (n i : ℕ) : Type 0 where

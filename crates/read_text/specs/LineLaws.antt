@@ -7,10 +7,11 @@ use native.Mathlib.Numerals.{add-one}
 use native.Mathlib.Omega.{arith}
 use native.Mathlib.Nat.{sub-eq-zero-of-le, sub-zero, sub-add-eq}
 use lib.ListN.{length, getD, take, set, drop, drop-of-length-le, length-set}
-use lib.Seq.{drop-cons, take-suc-set}
+use lib.Seq.{drop-cons}
 use borrow.Author.Tests.{eq-eqb, ne-eqb}
 use Rattle.rules.specs.ReadText.{Read, got, bad, then, ender, more, empty, line}
 use Rattle.whole.specs.Counts.{one-left}
+use Rattle.whole.specs.Stores.{front-more}
 
 -- a line of numbers: k = n − i are to come
 module _ {A : Type 0} (one : ℕ → List ℕ → Read A) where
@@ -44,10 +45,6 @@ module _ {A : Type 0} (t : List ℕ) where
   pub empty-no : (at : ℕ) → at < length t → (getD t at 0 ≡ 10 → ⊥) → empty {A = A} (drop at t) ≡ bad
   unfolding empty
   empty-no at h n = rw (drop-cons t at 0 h, ne-eqb (getD t at 0) 10 n)
-
--- the front of an array gains one
-pub front-more : {A : Type 0} (l : List A) (n : ℕ) (v : A) → n < length l → take (n + 1) (set l n v) ≡ take n l ++ (v ∷ [])
-front-more l n v h = rw (add-one, take-suc-set l n v h)
 
 pub ender-more : (k : ℕ) → (k ≡ 0 → ⊥) → 32 ≡ ender k
 ender-more zero h = absurd (h refl)

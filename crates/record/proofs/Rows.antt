@@ -4,9 +4,7 @@ use mathlib.Core.Path.{_≡_, refl, ap, _∙_}
 use mathlib.Core.Bool.{Bool, true, false, not, _&&_}
 use mathlib.Core.List.{List, [], _∷_}
 use Prim.Native.Nat.{ℕ, suc}
-use lib.Dec.{eqb}
 use lib.ListN.{length}
-use borrow.Author.Tests.{eq-eqb, ne-eqb}
 use Rattle.rules.specs.Refuse.{firstRow, readRefusal, writeRefusal}
 use Rattle.rules.specs.Record.{recordIn, noRecord, blockOf}
 use Rattle.rules.specs.Call.{unless, reading, blockAfter}
@@ -24,12 +22,6 @@ row-skip k t rs e h = rw e h
 pub row-none : 0 ≡ firstRow []
 unfolding firstRow
 row-none = refl
-
-pub unlike : (m k : ℕ) → (m ≡ k → ⊥) → not (eqb m k) ≡ true
-unlike m k n = rw (ne-eqb m k n)
-
-pub alike : (m k : ℕ) → m ≡ k → not (eqb m k) ≡ false
-alike m k e = rw (eq-eqb m k e)
 
 -- a body is broken by a byte that no field holds, or by the record
 pub zeros-wrong : (z s : Bool) → z ≡ false → not (z && s) ≡ true

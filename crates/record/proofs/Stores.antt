@@ -7,10 +7,10 @@ use native.Mathlib.Omega.{arith}
 use native.Mathlib.Nat.{zero-add}
 use native.Mathlib.Numerals.{add-one}
 use lib.ListN.{length, getD, take, drop, set, drop-of-length-le}
-use lib.Seq.{sets, sets-eq, drop-cons, take-at, take-suc, take-suc-set}
+use lib.Seq.{sets, sets-eq, drop-cons, take-at}
 use Rattle.whole.specs.Words.{from}
 use Rattle.whole.specs.Those.{from-last}
-use Rattle.whole.specs.Stores.{sets-append}
+use Rattle.whole.specs.Stores.{sets-append, front-more}
 use Rattle.whole.specs.Counts.{next-place}
 use Rattle.rules.specs.Record.{noStep, stepBytes, stepsBytes}
 use Rattle.rules.specs.declared.Step.{Step}
@@ -38,14 +38,10 @@ module _ {A : Type 0} where
   pub store-over : (l : List A) (i k : ℕ) (vs : List A) → length vs ≤ k → sets l (i + k) (drop k vs) ≡ l
   store-over l i k vs h = rw (drop-of-length-le vs h)
 
-  -- one store of a loop that fills a list from the front
-  pub fill-next : (l m : List A) (k : ℕ) (v d : A) → k < length l → k < length m → take k l ≡ take k m → v ≡ getD m k d → take (k + 1) (set l k v) ≡ take (k + 1) m
-  fill-next l m k v d h g e w = rw (add-one, take-suc-set l k v h, take-suc m k d g, e, w)
-
 -- one store of a loop that fills a list from the front by a rule
 pub fill-by : {A : Type 0} (f : ℕ → A) (l : List A) (k : ℕ) (v : A) → k < length l → take k l ≡ map f (from 0 k) → v ≡ f k → take (k + 1) (set l k v) ≡ map f (from 0 (k + 1))
 fill-by f l k v h e w =
-    rw (add-one, take-suc-set l k v h, from-last 0 k, map-append, e, w, zero-add k)
+    rw (front-more l k v h, add-one, from-last 0 k, map-append, e, w, zero-add k)
 
 -- one step of a loop that stores steps
 pub steps-next : (l : List ℕ) (at k : ℕ) (ss : List Step) → k < length ss

@@ -3,7 +3,7 @@
 use mathlib.Core.Path.{_≡_, refl, sym, ap, subst, _∙_}
 use mathlib.Core.Bool.{Bool, true, false, not}
 use mathlib.Core.List.{List}
-use Prim.Native.Nat.{ℕ, zero, suc, _+_, _*_, _-_, _%_, _<_, _≤_}
+use Prim.Native.Nat.{ℕ, _+_, _*_, _-_, _%_, _<_, _≤_}
 use native.Mathlib.Omega.{arith}
 use native.Mathlib.Decide.{ℕ-discrete, decLe}
 use native.Mathlib.Nat.{mul-le-mul, mul-pos, mul-mod-left, mul-add, add-sub-of-le}
@@ -13,6 +13,7 @@ use lib.Seq.{set-getD, length-take-le, set-set, set-comm, getD-set-other, take-s
 use borrow.Author.Tests.{eqb-true, eqb-false, not-true}
 use Rattle.whole.specs.Words.{from, all}
 use Rattle.whole.specs.Tests.{and-true}
+use Rattle.whole.specs.Members.{all-in, in-from}
 use Rattle.rules.specs.Record.{fromLittle, check, checkRight, sealed}
 use Rattle.roundtrip.specs.Bytes.{Bytes, bytes-front, bytes-set}
 use Rattle.roundtrip.specs.RoundTrip.{right-sealed}
@@ -20,13 +21,7 @@ use Rattle.roundtrip.specs.Sums.{total, weighted, check-first, check-sec
 
 -- ---- a byte's change, k places before the end, is no multiple of 2^16
 all-at : (p : ℕ → Bool) (c a i : ℕ) → all p (from a c) ≡ true → a ≤ i → i < a + c → p i ≡ true
-unfolding all from
-all-at p zero a i e h k = absurd (omega arith)
-all-at p (suc c) a i e h k = by (ℕ-discrete i a) (and-true (p a) (all p (from (suc a) c)) e) (λ t l. all-at p c (suc a) i t l (omega arith))
-  where
-    by : Dec (i ≡ a) → (p a ≡ true) × (all p (from (suc a) c) ≡ true) → (all p (from (suc a) c) ≡ true → suc a ≤ i → p i ≡ true) → p i ≡ true
-    by (yes q) t f = ap p q ∙ t .0
-    by (no q) t f = f (t .1) (omega arith)
+all-at p c a i e h k = all-in p (from a c) e i (in-from i a c h k)
 
 -- none of 130 to 255 divides 2^16: computed
 undivided : all (λ d. not (eqb (65536 % d) 0)) (from 130 126) ≡ true

@@ -1,15 +1,12 @@
 -- What is due, told by the queue's length and by the block that is found.
 -- Assumes nothing.
 use mathlib.Core.Path.{_≡_, refl, sym, ap, _∙_}
-use mathlib.Core.Bool.{Bool, true, false, cond, not}
+use mathlib.Core.Bool.{Bool, true, false, cond}
 use mathlib.Core.List.{List, [], _∷_}
 use mathlib.Core.Logic.{_≢_}
 use Prim.Native.Nat.{ℕ}
 use native.Mathlib.Omega.{arith}
-use lib.Dec.{eqb}
 use lib.ListN.{length, take}
-use borrow.Author.Tests.{eqb-true, eqb-false}
-use Rattle.whole.specs.Tests.{on-not, off-not}
 use Rattle.rules.specs.Objective.{smallBlock}
 use Rattle.rules.specs.Graph.{Graph}
 use Rattle.rules.specs.SmallBlock.{Block, none, members, findBlock}
@@ -73,10 +70,3 @@ found-on sw order count g e c = by (smallBlock sw) e
     by : (t : Bool) → blockBy order count ≡ cond t (findBlock g) none → blockBy order count ≡ findBlock g
     by true e = e
     by false e = let m : members (take count order) ≡ none = sym (a-block order count c) ∙ e in let y : _≡_ {A = ℕ} 0 1 = cc in absurd (omega arith)
-
--- the test of the code: a count other than 0
-pub is-none : (count : ℕ) → not (eqb count 0) ≡ false → count ≡ 0
-is-none count e = eqb-true count 0 (on-not (eqb count 0) e)
-
-pub not-none : (count : ℕ) → not (eqb count 0) ≡ true → count ≢ 0
-not-none count e = eqb-false count 0 (off-not (eqb count 0) e)

@@ -1,7 +1,6 @@
 -- A run begins in order, and everything due keeps it: so every state of it is in order, and its arrays have room.
 -- Assumes nothing.
 use mathlib.Core.Path.{_≡_, refl, subst}
-use mathlib.Core.Bool.{Bool, true, false}
 use mathlib.Core.List.{List, [], _∷_, _++_}
 use Prim.Native.Nat.{ℕ, _+_, _<_, _≤_}
 use native.Mathlib.Omega.{arith}
@@ -9,6 +8,7 @@ use lib.ListN.{length, length-append}
 use Rattle.whole.specs.Words.{oneIf}
 use Rattle.whole.specs.Pigeon.{Apart, pigeon}
 use Rattle.whole.specs.Members.{apart-tail, apart-wider}
+use Rattle.whole.specs.Tests.{at-most-one}
 use Rattle.rules.specs.Objective.{Objective}
 use Rattle.rules.specs.Graph.{Graph, neighbours}
 use Rattle.rules.specs.Fixing.{start}
@@ -34,10 +34,6 @@ use Rattle.run_laws.specs.InOrder.{Counted, InOrder, Room}
 -- ---- the counts
 one-more : (steps : List Step) (s : Step) → length (steps ++ s ∷ []) ≡ length steps + 1
 one-more steps s = length-append steps (s ∷ [])
-
-pub at-most-one : (b : Bool) → oneIf b ≤ 1
-at-most-one true = omega arith
-at-most-one false = omega arith
 
 -- what a reduction of one decision counts
 record One (c : Tally) : Type 0 where

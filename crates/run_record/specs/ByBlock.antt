@@ -1,14 +1,13 @@
 -- Demand 3 through a record's block: what is written is read again, and grows back and projects as the record itself.
 -- Assumes nothing.
 use mathlib.Core.Path.{_≡_, sym, ap, _∙_, subst}
-use mathlib.Core.Bool.{Bool, true, false, not}
+use mathlib.Core.Bool.{Bool, true, false}
 use mathlib.Core.List.{List, [], _++_, map}
 use Prim.Native.Nat.{ℕ, _-_}
 use native.Mathlib.Omega.{arith}
 use lib.ListN.{length, getD, replicate, length-append, length-replicate, length-map}
 use lib.IntN.{ℤ}
-use borrow.Author.Tests.{eq-eqb}
-use Rattle.whole.specs.Tests.{not-on, and-both}
+use Rattle.whole.specs.Tests.{not-on, and-both, eqb-same}
 use Rattle.rules.specs.Objective.{Objective}
 use Rattle.rules.specs.Outcome.{outcomeOf, outcome}
 use Rattle.rules.specs.Record.{noStep, noRecord, hold, holdAll, recordOf, recordIn, blockOf, sound, broken, edition}
@@ -24,7 +23,7 @@ use Rattle.roundtrip.specs.Fields.{Held}
 use Rattle.roundtrip.specs.RoundTrip as trip
 use Rattle.demand_three.specs.Demands.{reply, ByBlock}
 use Rattle.demand_three.specs.RunEnds.{endSteps, end-fine, end-taken}
-use Rattle.run_record.specs.ByCalls.{run-record-sound, no-row, none-left, long-enough, reply-is}
+use Rattle.run_record.specs.ByCalls.{run-record-sound, no-row, none-left, reply-is}
 
 -- ---- of any record that is not broken
 module _ (r : Record) (h : Held r) (s : sound r ≡ true) where
@@ -38,12 +37,12 @@ module _ (r : Record) (h : Held r) (s : sound r ≡ true) where
   block-rows : (rows : List (ℕ × Bool)) → firstRow (blockRows (blockOf r) ++ rows) ≡ firstRow rows
   block-rows rows =
       let a = trip.accept (blockOf r) (trip.reads r h unbroken) in
-      no-row 9 _ (long-enough (blockOf r) 512 (a .long)) ∙ no-row 10 _ (not-on (a .right)) ∙ no-row 11 _ (not-on (eq-eqb (getD (blockOf r) 0 0) edition (a .edition)))
+      no-row 9 _ (eqb-same (length (blockOf r)) 512 (a .long)) ∙ no-row 10 _ (not-on (a .right)) ∙ no-row 11 _ (eqb-same (getD (blockOf r) 0 0) edition (a .edition))
       ∙ no-row 12 rows (not-on (and-both (a .zeros) (a .unbroken)))
 
   written-fine : (b : List ℕ) → length b ≡ 512 → writeRefusal r (length b) ≡ 0
   unfolding writeRefusal
-  written-fine b l = no-row 9 _ (long-enough b 512 l) ∙ no-row 12 [] unbroken ∙ none-left
+  written-fine b l = no-row 9 _ (eqb-same (length b) 512 l) ∙ no-row 12 [] unbroken ∙ none-left
 
   block-is : (b : List ℕ) → length b ≡ 512 → blockAfter r b ≡ blockOf r
   unfolding blockAfter

@@ -9,10 +9,11 @@ use lib.Dec.{eqb}
 use lib.ListN.{length, getD, take, replicate, length-append, length-replicate}
 use lib.IntN.{ℤ}
 use lib.Signed.{_≤ℤ_}
-use borrow.Author.Tests.{le-ltb, eq-eqb}
+use borrow.Author.Tests.{le-ltb}
 use Rattle.whole.specs.Words.{some, oneOf}
 use Rattle.whole.specs.Parts.{natAbs-parts}
-use Rattle.whole.specs.Tests.{not-on, or-none}
+use Rattle.whole.specs.Tests.{not-on, or-none, eqb-same}
+use Rattle.whole.specs.Lists.{past}
 use Rattle.rules.specs.Objective.{Objective}
 use Rattle.rules.specs.Outcome.{outcomeOf, outcome}
 use Rattle.rules.specs.Back.{growBack, project, remainingOf}
@@ -23,7 +24,7 @@ use Rattle.rules.specs.Call.{unless, reduction, reported, refused, linearAfter,
 use Rattle.rules.specs.declared.Reduction.{Reduction}
 use Rattle.rules.specs.declared.Record.{Record}
 use Rattle.accepted.specs.Accept.{Fit, Accepted, accept}
-use Rattle.sound_run.specs.SoundStart.{statesFrom, past}
+use Rattle.sound_run.specs.SoundStart.{statesFrom}
 use Rattle.size_rule.specs.RunWithin.{ended-within}
 use Rattle.demand_three.specs.Demands.{Values, FullPlan, Answer, costOfPlan, reducedCost, costOfAnswer, grownBack, projection, reply, ByCalls}
 use Rattle.demand_three.specs.RunEnds.{endGraph, endSteps, end-states, end-taken, start-state, shown-remaining}
@@ -66,9 +67,6 @@ no-test : {s t : Bool} → s ≡ false → t ≡ false → oneOf (s ∷ t ∷ []
 unfolding oneOf
 no-test p q = or-none p (or-none q refl)
 
-pub long-enough : {A : Type 0} (xs : List A) (k : ℕ) → length xs ≡ k → not (eqb (length xs) k) ≡ false
-long-enough xs k h = not-on (eq-eqb (length xs) k h)
-
 all-bits : (xs : List ℕ) → ((i : ℕ) → getD xs i 0 ≤ 1) → some (over 1) xs ≡ false
 unfolding some
 all-bits [] h = refl
@@ -76,7 +74,7 @@ all-bits (x ∷ xs) h = or-none (le-ltb 1 x (h 0)) (all-bits xs (λ i. h (suc i)
 
 bytes-fine : (k n : ℕ) (xs out : List ℕ) → Values k xs → length out ≡ n
     → firstRow ((7, oneOf (not (eqb (length xs) k) ∷ not (eqb (length out) n) ∷ [])) ∷ (8, some (over 1) xs) ∷ []) ≡ 0
-bytes-fine k n xs out v h = no-row 7 ((8, some (over 1) xs) ∷ []) (no-test (long-enough xs k (v .long)) (long-enough out n h)) ∙ no-row 8 [] (all-bits xs (v .bits)) ∙ none-left
+bytes-fine k n xs out v h = no-row 7 ((8, some (over 1) xs) ∷ []) (no-test (eqb-same (length xs) k (v .long)) (eqb-same (length out) n h)) ∙ no-row 8 [] (all-bits xs (v .bits)) ∙ none-left
 
 -- ---- growing back and projecting by the record
 module _ (o : Objective) (fit : Fit o) where

@@ -14,15 +14,14 @@ use lib.IntN.{ℤ, natAbs}
 use borrow.Author.Tests.{lt-ltb, le-leb, ne-eqb, eqb-true}
 use Rattle.whole.specs.Words.{from, mem, all, allOf}
 use Rattle.whole.specs.Tests.{cases, clash, and-both, or-left, or-right, not-off, refuse}
-use Rattle.whole.specs.Members.{in-cons, in-head, in-tail}
+use Rattle.whole.specs.Members.{in-cons, in-head, in-tail, all-of, from-in}
+use Rattle.whole.specs.Lists.{past}
 use Rattle.rules.specs.Eliminate as rule
 use Rattle.rules.specs.Record.{noStep, hold, holdAll, recordOf, nearOf, isNone, stateAt, stepAt, decided, ascending, nearFine, choiceLimit, stepFine, stepped, sound}
 use Rattle.rules.specs.declared.Step.{Step}
 use Rattle.rules.specs.declared.Record.{Record}
 use Rattle.meaning.specs.Stands.{marked}
 use Rattle.sound_run.specs.Sound.{Taken, Steps, decisions, decisions-append, marked-append}
-use Rattle.sound_run.specs.Ascending.{all-of}
-use Rattle.sound_run.specs.SoundStart.{past}
 use Rattle.run_laws.specs.StepLaws.{steps-alive, steps-few}
 use Rattle.run_laws.specs.RemainingLaws.{marked-alive}
 use Rattle.roundtrip.specs.Steps.{Few, played-hold}
@@ -31,9 +30,7 @@ use Rattle.run_record.specs.HeldSteps.{held-unused, held-choices, step-h
 
 -- ---- every one of a range passes
 all-from : (p : ℕ → Bool) (k c : ℕ) → ((i : ℕ) → k ≤ i → i < k + c → p i ≡ true) → all p (from k c) ≡ true
-unfolding all from
-all-from p k zero h = refl
-all-from p k (suc c) h = and-both (h k (omega arith) (omega arith)) (all-from p (suc k) c (λ i l m. h i (omega arith) (omega arith)))
+all-from p k c h = all-of p (from k c) (λ i m. let r = from-in i k c m in h i (r .0) (r .1))
 
 and-all : {t : Bool} (ts : List Bool) → t ≡ true → allOf ts ≡ true → allOf (t ∷ ts) ≡ true
 unfolding allOf

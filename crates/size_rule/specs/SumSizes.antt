@@ -47,6 +47,10 @@ module _ (g : Graph) (w : Within g) where
     pub entries-three : Small 61572651155456 (tab (moebius (tee g i)) 8)
     entries-three = small-tab (moebius (tee g i)) 8 (moebius-size (tee g i) tee-three)
 
+  -- ---- a contraction: what j's weight gains where x of i becomes x of j, 3·2^40
+  pub taken-size : (i j : ℕ) → ∣ lin g i +ℤ edge g i j ∣ ≤ 3298534883328
+  taken-size i j = add-size (lin g i) (edge g i j) (w .linear i) (w .edges (64 * i + j))
+
   -- ---- small block
   -- what one member adds: its weight, its edges to the boundary and to the members after it
   member-size : (i : ℕ) (out is : List ℕ) (f m : ℕ)

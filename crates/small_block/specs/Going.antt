@@ -16,6 +16,7 @@ use Rattle.whole.specs.Members.{mem-append}
 use Rattle.meaning.specs.Growth.{Network, Growing, turn}
 use Rattle.meaning.specs.Turns.{idle-turns}
 use Rattle.whole.specs.Masks.{these, bit-or, mem-these, these-below, these-less, those-ext}
+use Rattle.whole.specs.Counts.{one-left}
 use Rattle.small_block.specs.Held.{nearBy}
 
 -- a component, as the code holds it: its order at the front of an array, and a mask of it and of what is set aside
@@ -80,7 +81,7 @@ module _ {near : ℕ → List ℕ} {aside : List ℕ} {seed : ℕ} {l : List ℕ
     })
       where
         fuel : 64 - done ≡ suc (64 - suc done)
-        fuel = omega (arith, going-few)
+        fuel = one-left 64 done (omega (arith, going-few)) ∙ ap (λ (k : ℕ). suc (64 - k)) (add-one done)
 
 -- by masks: what a turn finds is the bits of the mask that are not seen
 module _ (masks : List ℕ) {aside : List ℕ} {seed : ℕ} {l : List ℕ} {done seen : ℕ} (w : Going (nearBy masks) aside seed l done seen) (i : ℕ) where

@@ -15,9 +15,9 @@ use borrow.Author.Tests.{eqb-true, eq-eqb}
 use Rattle.whole.specs.Words.{bit, mem, some}
 use Rattle.rules.specs.SmallBlock.{component}
 use Rattle.whole.specs.Tests.{cases, clash, refuse, or-true, or-false, or-left, or-right, and-true, and-both, not-off, not-on, on-not, off-not}
-use Rattle.whole.specs.Members.{in-cons, in-single, in-head, in-append, in-left, in-right, some-true, some-none, apart-below}
+use Rattle.whole.specs.Members.{in-single, in-head, in-append, in-left, in-right, some-true, some-none, apart-below}
 use Rattle.meaning.specs.Growth.{Network, Grown, component-grown}
-use Rattle.whole.specs.Masks.{these, bit-or, bit-and, bit-less, bit-single, bit-none, mem-these, these-below, first-in, turn}
+use Rattle.whole.specs.Masks.{these, bit-or, bit-and, bit-less, bit-single, bit-none, mem-these, these-below, first-in, turn, lowest-off}
 use Rattle.small_block.specs.Held.{nearBy}
 use Rattle.small_block.specs.Cutting.{low-mask}
 
@@ -112,8 +112,7 @@ module _ (masks : List ℕ) (net : Network 64 (nearBy masks)) {aside : List ℕ}
     later-todo k b t = and-true (bit todo k) (bit (todo - 1) k) (sym (bit-and todo (todo - 1) k) ∙ t) .0
 
     todo-later : (k : ℕ) → k < 64 → bit todo k ≡ true → bit (bitAnd todo (todo - 1)) k ≡ false → k ≡ trailingZeros 64 todo
-    todo-later k b t z = in-cons k (trailingZeros 64 todo) (these (bitAnd todo (todo - 1))) (ap (mem k) (sym (turn todo d lt .parts)) ∙ mem-these todo k b ∙ t)
-        (λ q. q) (λ q. clash (sym (mem-these (bitAnd todo (todo - 1)) k b) ∙ q) z)
+    todo-later = lowest-off todo d lt
 
     new-is : (k : ℕ) → k < 64 → bit new k ≡ true → (mem k (nearBy masks (trailingZeros 64 todo)) ≡ true) × (bit seen k ≡ false)
     new-is k b t =

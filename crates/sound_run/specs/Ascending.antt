@@ -8,26 +8,15 @@ use native.Mathlib.Omega.{arith}
 use native.Mathlib.Nat.{pow-suc, add-zero, zero-add}
 use lib.Dec.{ltb}
 use borrow.Author.Tests.{lt-ltb}
-use Rattle.whole.specs.Words.{from, upto, mem, those, all, oneIf, bitsFrom}
+use Rattle.whole.specs.Words.{from, upto, those, all, oneIf, bitsFrom}
 use Rattle.whole.specs.Tests.{and-true, and-both}
-use Rattle.whole.specs.Members.{in-head, in-tail}
+use Rattle.whole.specs.Members.{all-of, all-in, in-those, from-in}
 use Rattle.whole.specs.Counts.{shift}
 use Rattle.rules.specs.Record.{ascending}
 
 -- ---- every one passes
-pub all-of : (p : ℕ → Bool) (xs : List ℕ) → ((k : ℕ) → mem k xs ≡ true → p k ≡ true) → all p xs ≡ true
-unfolding all
-all-of p [] h = refl
-all-of p (x ∷ xs) h = and-both (h x (in-head x xs)) (all-of p xs (λ k m. h k (in-tail k x xs m)))
-
 all-those : (p q : ℕ → Bool) (xs : List ℕ) → all q xs ≡ true → all q (those p xs) ≡ true
-unfolding all those
-all-those p q [] h = refl
-all-those p q (x ∷ xs) h = let r = and-true (q x) (all q xs) h in go (p x) (r .0) (all-those p q xs (r .1))
-  where
-    go : (b : Bool) → q x ≡ true → all q (those p xs) ≡ true → all q (cond b (x ∷ those p xs) (those p xs)) ≡ true
-    go true h r = and-both h r
-    go false h r = r
+all-those p q xs h = all-of q (those p xs) (λ k m. all-in q xs h k (in-those p k xs m .0))
 
 -- ---- ascending
 pub ascending-those : (p : ℕ → Bool) (xs : List ℕ) → ascending xs ≡ true → ascending (those p xs) ≡ true
@@ -40,9 +29,7 @@ ascending-those p (x ∷ xs) h = let r = and-true (all (ltb x) xs) (ascending xs
     go false h r = r
 
 above : (x k c : ℕ) → x < k → all (ltb x) (from k c) ≡ true
-unfolding all from
-above x k zero h = refl
-above x k (suc c) h = and-both (lt-ltb x k h) (above x (suc k) c (omega arith))
+above x k c h = all-of (ltb x) (from k c) (λ i m. lt-ltb x i (omega (arith, from-in i k c m .0)))
 
 ascending-from : (k c : ℕ) → ascending (from k c) ≡ true
 unfolding ascending from

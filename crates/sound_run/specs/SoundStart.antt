@@ -3,17 +3,17 @@
 use mathlib.Core.Path.{_≡_, refl, sym, ap, _∙_, subst}
 use mathlib.Core.Bool.{Bool, true, false, cond}
 use mathlib.Core.List.{List, [], _∷_, _++_}
-use Prim.Native.Nat.{ℕ, zero, suc, _+_, _*_, _-_, _<_, _≤_}
+use Prim.Native.Nat.{ℕ, suc, _+_, _*_, _-_, _<_, _≤_}
 use native.Mathlib.Omega.{arith}
 use native.Mathlib.Decide.{decLt}
 use lib.Dec.{ltb, eqb}
 use lib.ListN.{length, getD, set, replicate, length-append, length-replicate, getD-replicate, List·getD-append}
-use lib.Seq.{set-at, append-snoc, getD-append-add}
+use lib.Seq.{set-at, append-snoc}
 use lib.IntN.{ℤ, pos}
 use borrow.Author.Tests.{eqb-false, ltb-true, ltb-false}
 use Rattle.whole.specs.Words.{isZeroZ}
 use Rattle.whole.specs.Tests.{clash}
-use Rattle.whole.specs.Lists.{replicate-at}
+use Rattle.whole.specs.Lists.{past}
 use Rattle.rules.specs.Objective.{Objective}
 use Rattle.rules.specs.Graph.{Graph, lin, active, addLinear, addEdge, addTerm, addTerms, noEdges, bare, graphOf}
 use Rattle.rules.specs.Fixing.{fix, fixAll, start}
@@ -27,12 +27,6 @@ use Rattle.sound_run.specs.SoundRun.{run-sound, begin-sound}
 -- n decisions in the states f, none past them
 abbrev pub statesFrom : ℕ → List ℕ → List ℕ
 statesFrom n f = f ++ replicate (64 - n) 0
-
--- a list filled up with a has it past its end
-pub past : {A : Type 0} (xs : List A) (a : A) (c k : ℕ) → length xs ≤ k → getD (xs ++ replicate c a) k a ≡ a
-past xs a c k h =
-    let e : length xs + (k - length xs) ≡ k = omega arith in
-    ap (λ (m : ℕ). getD (xs ++ replicate c a) m a) (sym e) ∙ getD-append-add xs (replicate c a) (k - length xs) a ∙ replicate-at a c (k - length xs)
 
 -- ---- building
 module _ (o : Objective) (fit : Fit o) where

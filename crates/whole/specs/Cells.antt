@@ -3,7 +3,7 @@
 use mathlib.Core.Path.{_≡_, refl, _∙_}
 use mathlib.Core.List.{List, [], _∷_}
 use mathlib.Core.Logic.{_≢_}
-use Prim.Native.Nat.{ℕ, zero, suc, _+_, _*_, _<_}
+use Prim.Native.Nat.{ℕ, zero, suc, _+_, _*_, _/_, _%_, _<_}
 use native.Mathlib.Omega.{arith}
 use lib.ListN.{getD, set}
 use lib.Seq.{getD-set-other}
@@ -14,6 +14,12 @@ row-of i j k l p q e = omega arith
 
 pub col-of : (i j k l : ℕ) → j < 64 → l < 64 → 64 * i + j ≡ 64 * k + l → j ≡ l
 col-of i j k l p q e = omega arith
+
+pub row-at : (a b : ℕ) → b < 64 → (64 * a + b) / 64 ≡ a
+row-at a b h = omega arith
+
+pub column-at : (a b : ℕ) → b < 64 → (64 * a + b) % 64 ≡ b
+column-at a b h = omega arith
 
 -- a place that a store leaves, or makes x, holds x if it did
 pub still-set : {A : Type 0} (z x : A) (e : List A) (k p : ℕ) → getD e p z ≡ x → getD (set e k x) p z ≡ x

@@ -6,7 +6,7 @@ use mathlib.Core.List.{List, [], _∷_, _++_, map, append-nil}
 use native.Mathlib.Numerals.{add-one}
 use native.Mathlib.Nat.{add-zero, zero-add, sub-zero, suc-sub-suc}
 use native.Mathlib.Omega.{arith}
-use lib.ListN.{length, getD, set, drop, replicate, length-append, length-map, List·getD-append}
+use lib.ListN.{length, getD, set, take, drop, replicate, length-append, length-map, List·getD-append, List·getD-eq-default}
 use native.Mathlib.Decide.{ℕ-discrete}
 use lib.Seq.{drop-cons, drop-length, set-at, append-snoc, getD-at, getD-set-same, getD-set-other}
 use Rattle.whole.specs.Words.{tab, from}
@@ -81,6 +81,33 @@ tab-at f (suc k) j d h = by (ℕ-discrete j k) (λ l. tab-at f k j d l)
     by (no e) r =
         let l : j < length (tab f k) = rw length-tab (omega arith) in
         List·getD-append (tab f k) (f k ∷ []) d j l ∙ r (omega arith)
+
+-- under a map
+pub map-at : {A B : Type 0} (f : A → B) (xs : List A) (k : ℕ) (a : A) (b : B) → k < length xs → getD (map f xs) k b ≡ f (getD xs k a)
+map-at f [] k a b h = absurd (omega arith)
+map-at f (x ∷ xs) zero a b h = refl
+map-at f (x ∷ xs) (suc k) a b h = map-at f xs k a b (omega arith)
+
+-- filled up with a, which is also what stands past the end
+pub padded : {A : Type 0} (xs : List A) (a : A) (c k : ℕ) → getD (xs ++ replicate c a) k a ≡ getD xs k a
+padded [] a c k = replicate-at a c k
+padded (x ∷ xs) a c zero = refl
+padded (x ∷ xs) a c (suc k) = padded xs a c k
+
+pub past : {A : Type 0} (xs : List A) (a : A) (c k : ℕ) → length xs ≤ k → getD (xs ++ replicate c a) k a ≡ a
+past xs a c k h = padded xs a c k ∙ List·getD-eq-default xs a h
+
+-- a list by its places, the first of them first
+pub tab-front : {A : Type 0} (f : ℕ → A) (n : ℕ) → tab f (suc n) ≡ f 0 ∷ tab (λ k. f (suc k)) n
+unfolding tab
+tab-front f zero = refl
+tab-front {A} f (suc n) = ap (λ (t : List A). t ++ f (suc n) ∷ []) (tab-front f n)
+
+-- n places hold the whole of a list that is no longer
+pub held-whole : {A : Type 0} (z : A) (n : ℕ) (l : List A) → length l ≤ n → take (length l) (tab (λ k. getD l k z) n) ≡ l
+held-whole z n [] h = refl
+held-whole z zero (x ∷ l) h = absurd (omega arith)
+held-whole {A} z (suc n) (x ∷ l) h = ap (take (suc (length l))) (tab-front (λ k. getD (x ∷ l) k z) n) ∙ ap (λ (t : List A). x ∷ t) (held-whole z n l (omega arith))
 
 -- an entry below b takes the place of another
 pub below-set : (b : ℕ) (l : List ℕ) (m v : ℕ) → m < length l → v < b → ((k : ℕ) → getD l k 0 < b) → (k : ℕ) → getD (set l m v) k 0 < b

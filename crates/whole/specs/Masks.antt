@@ -16,9 +16,10 @@ use lib.Count.{trailingZeros, under}
 use lib.Pow.{pow-lt}
 use borrow.Author.Tests.{ne-eqb}
 use Rattle.whole.specs.Words.{odd, bit, from, upto, mem, those}
-use Rattle.whole.specs.Members.{in-head, in-tail, mem-those, in-those, from-in, in-upto, upto-in, apart-those, apart-upto}
+use Rattle.whole.specs.Members.{in-head, in-tail, mem-those, in-those, from-in, in-upto, upto-in, apart-those, apart-upto, in-cons}
 use Rattle.whole.specs.Pigeon.{Apart}
 use Rattle.whole.specs.Counts.{shift}
+use Rattle.whole.specs.Tests.{clash}
 
 -- the decisions of a mask, ascending
 unfoldable pub these : ℕ → List ℕ
@@ -243,6 +244,11 @@ module _ (m : ℕ) (l : m ≢ 0) (h : m < 2 ^ 64) where
 
   pub first-in : mem (trailingZeros 64 m) (these m) ≡ true
   first-in = ap (mem (trailingZeros 64 m)) (these-step m above h) ∙ in-head (trailingZeros 64 m) (these (bitAnd m (m - 1)))
+
+  -- the lowest alone is taken off
+  pub lowest-off : (k : ℕ) → k < 64 → bit m k ≡ true → bit (bitAnd m (m - 1)) k ≡ false → k ≡ trailingZeros 64 m
+  lowest-off k b t z = in-cons k (trailingZeros 64 m) (these (bitAnd m (m - 1))) (ap (mem k) (sym (these-step m above h)) ∙ mem-these m k b ∙ t)
+      (λ q. q) (λ q. clash (sym (mem-these (bitAnd m (m - 1)) k b) ∙ q) z)
 
   pub these-length : length (these m) ≡ suc (length (these (bitAnd m (m - 1))))
   these-length = ap length (these-step m above h)

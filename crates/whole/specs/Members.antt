@@ -11,7 +11,7 @@ use native.Mathlib.Decide.{decLt}
 use lib.Dec.{eqb}
 use lib.ListN.{length, getD, List·getD-eq-default}
 use borrow.Author.Tests.{eqb-true, eqb-false, eq-eqb, ne-eqb}
-use Rattle.whole.specs.Words.{from, upto, mem, those, some}
+use Rattle.whole.specs.Words.{from, upto, mem, those, some, all}
 use Rattle.whole.specs.Tests.{cases, clash, or-true, or-false, or-left, or-right, or-none, and-true, and-both, refuse}
 use Rattle.whole.specs.Different.{Apart, none, one}
 
@@ -99,7 +99,7 @@ pub to-those : (p : ℕ → Bool) (k : ℕ) (xs : List ℕ) → mem k xs ≡ tru
 to-those p k xs h q = mem-those p k xs ∙ and-both h q
 
 -- 0, 1, ..
-in-from : (j k c : ℕ) → k ≤ j → j < k + c → mem j (from k c) ≡ true
+pub in-from : (j k c : ℕ) → k ≤ j → j < k + c → mem j (from k c) ≡ true
 unfolding from mem
 in-from j k zero h l = absurd (bad h l)
   where
@@ -137,6 +137,17 @@ pub some-none : (p : ℕ → Bool) (xs : List ℕ) → ((k : ℕ) → mem k xs �
 unfolding some
 some-none p [] h = refl
 some-none p (x ∷ xs) h = or-none (h x (in-head x xs)) (some-none p xs (λ k m. h k (in-tail k x xs m)))
+
+-- all pass
+pub all-of : (p : ℕ → Bool) (xs : List ℕ) → ((k : ℕ) → mem k xs ≡ true → p k ≡ true) → all p xs ≡ true
+unfolding all
+all-of p [] h = refl
+all-of p (x ∷ xs) h = and-both (h x (in-head x xs)) (all-of p xs (λ k m. h k (in-tail k x xs m)))
+
+pub all-in : (p : ℕ → Bool) (xs : List ℕ) → all p xs ≡ true → (k : ℕ) → mem k xs ≡ true → p k ≡ true
+unfolding all
+all-in p [] h k m = nobody k m
+all-in p (x ∷ xs) h k m = let r = and-true (p x) (all p xs) h in in-cons k x xs m (λ e. ap p e ∙ r .0) (λ t. all-in p xs (r .1) k t)
 
 -- ---- different decisions below n
 pub apart-head : {n x : ℕ} {xs : List ℕ} → Apart n (x ∷ xs) → x < n

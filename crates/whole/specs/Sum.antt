@@ -35,6 +35,13 @@ unfolding Σ<
     by (yes e) r = rw (← e, Σ-cong n g f (λ i i<n. h i (omega arith))) (simp ints (omega arith))
     by (no e) r = rw (r (omega arith), h n e) (simp ints (omega arith))
 
+-- a running sum: one summand has joined it, and none is left
+pub sum-next : (x x′ v n n′ s : ℤ) → x′ ≡ x +ℤ v → n ≡ v +ℤ n′ → x +ℤ n ≡ s → x′ +ℤ n′ ≡ s
+sum-next x x′ v n n′ s p q e = rw p (simp ints (omega (arith, simp ints at q, simp ints at e)))
+
+pub sum-end : (x n y : ℤ) → n ≡ pos 0 → x +ℤ n ≡ y → x ≡ y
+sum-end x n y p e = simp ints (omega (arith, simp ints at e, simp ints at p))
+
 -- one summand split off: the rest has 0 in its place
 abbrev pub but : ℕ → (ℕ → ℤ) → ℕ → ℤ
 but k f i = cond (eqb i k) (pos 0) (f i)

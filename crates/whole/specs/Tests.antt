@@ -3,8 +3,11 @@
 use mathlib.Core.Path.{_≡_, refl, sym, ap, _∙_, subst}
 use mathlib.Core.Bool.{Bool, true, false, cond, not, _&&_, _||_}
 use mathlib.Core.Logic.{_≢_}
-use Prim.Native.Nat.{ℕ}
-use lib.Dec.{T}
+use Prim.Native.Nat.{ℕ, _≤_}
+use native.Mathlib.Omega.{arith}
+use lib.Dec.{T, eqb}
+use borrow.Author.Tests.{eqb-true, eqb-false, eq-eqb, ne-eqb}
+use Rattle.whole.specs.Words.{oneIf}
 
 -- a test, taken by cases
 pub cases : (b : Bool) {P : Type 0} → (b ≡ true → P) → (b ≡ false → P) → P
@@ -62,6 +65,24 @@ off-not false h = refl
 pub on-not : (a : Bool) → not a ≡ false → a ≡ true
 on-not true h = refl
 on-not false h = sym h
+
+-- two numbers' test, denied
+pub eqb-same : (m k : ℕ) → m ≡ k → not (eqb m k) ≡ false
+eqb-same m k e = not-on (eq-eqb m k e)
+
+pub eqb-other : (m k : ℕ) → m ≢ k → not (eqb m k) ≡ true
+eqb-other m k d = not-off (ne-eqb m k d)
+
+pub same-eqb : (m k : ℕ) → not (eqb m k) ≡ false → m ≡ k
+same-eqb m k h = eqb-true m k (on-not (eqb m k) h)
+
+pub other-eqb : (m k : ℕ) → not (eqb m k) ≡ true → m ≢ k
+other-eqb m k h = eqb-false m k (off-not (eqb m k) h)
+
+-- a test's number
+pub at-most-one : (b : Bool) → oneIf b ≤ 1
+at-most-one true = omega arith
+at-most-one false = omega arith
 
 -- what is not true is false
 pub refuse : (a : Bool) → (a ≡ true → ⊥) → a ≡ false

@@ -1,12 +1,12 @@
 -- Loops over a range of numbers, and those of it that pass a test: one turn more, of what is left and of what has been gone through.
 -- Assumes nothing.
-use mathlib.Core.Path.{_≡_, refl, ap, _∙_, sym}
+use mathlib.Core.Path.{_≡_, refl, ap, _∙_, sym, ap₂}
 use mathlib.Core.Bool.{Bool, true, false, cond}
 use mathlib.Core.List.{List, [], _∷_, _++_, append-nil}
 use Prim.Native.Nat.{ℕ, zero, suc, _+_, _-_, _<_, _≤_}
-use native.Mathlib.Numerals.{add-one}
+use native.Mathlib.Numerals.{add-one, suc-eq-add-one}
 use native.Mathlib.Omega.{arith}
-use native.Mathlib.Nat.{add-zero, zero-add, sub-eq-zero-of-le}
+use native.Mathlib.Nat.{add-zero, zero-add, sub-eq-zero-of-le, suc-add}
 use lib.ListN.{length}
 use Rattle.whole.specs.Words.{from, upto, those}
 use Rattle.whole.specs.Pigeon.{pigeon}
@@ -36,10 +36,15 @@ module _ (p : ℕ → Bool) (n i : ℕ) where
   rest-end h = rw (from-end i n h)
 
 -- ---- what has been gone through
+pub from-append : (k a b : ℕ) → from k (a + b) ≡ from k a ++ from (k + a) b
+unfolding from
+from-append k zero b = ap₂ from (sym (add-zero k)) (zero-add b)
+from-append k (suc a) b =
+    ap (from k) (suc-add a b) ∙ ap (λ (l : List ℕ). k ∷ l) (from-append (suc k) a b ∙ ap (λ (m : ℕ). from (suc k) a ++ from m b) (shift k a))
+
 pub from-last : (k c : ℕ) → from k (suc c) ≡ from k c ++ ((k + c) ∷ [])
 unfolding from
-from-last k zero = rw (add-zero k)
-from-last k (suc c) = rw (← shift k c, ← from-last (suc k) c)
+from-last k c = ap (from k) (suc-eq-add-one c) ∙ from-append k c 1
 
 module _ (p : ℕ → Bool) where
   kept : (t : Bool) (x : ℕ) (xs ys : List ℕ) → cond t (x ∷ (xs ++ ys)) (xs ++ ys) ≡ cond t (x ∷ xs) xs ++ ys
@@ -51,7 +56,7 @@ module _ (p : ℕ → Bool) where
   those-append [] ys = refl
   those-append (x ∷ xs) ys = rw (those-append xs ys) (kept (p x) x (those p xs) (those p ys))
 
-  those-last : (k : ℕ) → those p (upto (k + 1)) ≡ those p (upto k) ++ those p (k ∷ [])
+  pub those-last : (k : ℕ) → those p (upto (k + 1)) ≡ those p (upto k) ++ those p (k ∷ [])
   those-last k = rw (add-one, from-last 0 k, those-append (from 0 k)) (rw (zero-add k))
 
   pub those-more : (k : ℕ) → p k ≡ true → those p (upto (k + 1)) ≡ those p (upto k) ++ (k ∷ [])

@@ -1,13 +1,12 @@
 use mathlib.Core.Path.{_≡_, refl, sym, _∙_}
-use mathlib.Core.List.{List}
-use Prim.Native.Nat.{ℕ, _+_, _≤_, _<_, _-_}
+use Prim.Native.Nat.{_≤_, _-_}
 use native.Mathlib.Omega.{arith}
-use native.Mathlib.Numerals.{add-one}
 use borrow.Author.Needs.{needs}
-use lib.ListN.{length, getD, set, take, length-set}
-use lib.Seq.{take-all, take-suc, take-suc-set}
+use lib.ListN.{length, getD, take, length-set}
+use lib.Seq.{take-all}
 use Rattle.balecreak.proofs.put_counts.Statement.{statement}
 use Rattle.balecreak.proofs.put_counts.Tie as tie
+use Rattle.whole.specs.Stores.{fill-next}
 
 abbrev Inv-loop : tie.InvT-loop
 Inv-loop counts₀ list k₀ counts k = (k ≤ 14) × (length counts ≡ 14) × (take k counts ≡ take k list)
@@ -18,9 +17,6 @@ abbrev μ-loop : tie.MeasureT-loop
 loop-holds : tie.Need-loop-holds Inv-loop μ-loop
 loop-holds c = (omega arith, search needs, refl)
 
-next : (l m : List ℕ) (k : ℕ) → k < length l → k < length m → take k l ≡ take k m → take (k + 1) (set l k (getD m k 0)) ≡ take (k + 1) m
-next l m k h g e = rw (add-one, take-suc-set l k (getD m k 0) h, take-suc m k 0 g, e)
-
 loop-again : tie.Need-loop-again Inv-loop μ-loop
 loop-again c =
     let l = c .before .loop in
@@ -28,7 +24,7 @@ loop-again c =
     let n : length (a .t2) ≡ 14 = search needs in (
       omega arith,
       length-set (l .counts) (l .k) (getD (a .t2) (l .k) 0) ∙ l .inv .1,
-      next (l .counts) (a .t2) (l .k) (omega (arith, l .inv .1)) (omega arith) (l .inv .2),
+      fill-next (l .counts) (a .t2) (l .k) (getD (a .t2) (l .k) 0) 0 (omega (arith, l .inv .1)) (omega arith) (l .inv .2) refl,
     )
 
 returns : tie.Need-returns Inv-loop μ-loop

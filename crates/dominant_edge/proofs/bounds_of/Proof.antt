@@ -1,12 +1,13 @@
 use Rattle.whole.specs.Parts.{∣_∣}
 use Rattle.dominant_edge.proofs.Taking.{low, left-fits}
-use Rattle.dominant_edge.proofs.Finding.{edgesTo, negatives-turn, positives-turn, negatives-end, positives-end, sum-next, sum-end, Turn, made}
+use Rattle.dominant_edge.proofs.Finding.{edgesTo, negatives-turn, positives-turn, negatives-end, positives-end, Turn, made}
 use Rattle.rules.specs.DominantEdge.{negatives, positives}
 use Rattle.rules.specs.Graph.{lin, neighbours}
 use Rattle.whole.specs.Ints.{rd}
 use Rattle.whole.specs.Words.{below0, above0}
 use Rattle.whole.specs.Masks.{these, these-apart, rest-less}
 use Rattle.whole.specs.Pigeon.{pigeon}
+use Rattle.whole.specs.Sum.{sum-next, sum-end}
 use Rattle.accepted.specs.Small.{Small, small-map}
 use Rattle.size_rule.specs.Sizes.{lo-size, hi-size}
 use lib.Count.{trailingZeros}

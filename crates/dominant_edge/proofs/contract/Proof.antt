@@ -9,7 +9,8 @@ use Rattle.graph.specs.Held.{held}
 use Rattle.rules.specs.Size.{Within}
 use Rattle.accepted.specs.Small.{Small}
 use Rattle.graph.specs.Small.{dropped-within}
-use Rattle.size_rule.specs.Sizes.{add-size, neg-size}
+use Rattle.size_rule.specs.Sizes.{neg-size}
+use Rattle.size_rule.specs.SumSizes.{taken-size}
 use lib.IntN.{ℤ, pos, negℤ, _+ℤ_}
 use lib.ListN.{getD}
 use lib.Seq.{getD-set-other}
@@ -115,7 +116,7 @@ returns c =
 
 -- the sum that j gains where it takes the decision's part
 sum-small : (s : tie.Start) → ∣ a s +ℤ w s ∣ ≤ 3298534883328
-sum-small s = add-size (a s) (w s) (a-small s) (w-small s)
+sum-small s = taken-size (before s) (s .pre .3) (s .args .i) (s .args .j)
 
 add-add-linear : tie.Need-add-add-linear
 add-add-linear c =

@@ -1,6 +1,6 @@
-use Rattle.dominant_edge.proofs.Finding.{zero-test}
 use Rattle.whole.specs.Tests.{or-left}
 use Rattle.whole.specs.Words.{isZeroZ}
+use Rattle.whole.specs.Cmp.{zero-test}
 use borrow.Author.Tests.{eq-eqb, ne-eqb}
 use mathlib.Core.Bool.{Bool, true, false, _||_}
 use mathlib.Core.Path.{_≡_, sym, ap, _∙_}

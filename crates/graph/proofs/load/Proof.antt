@@ -1,5 +1,6 @@
-use Rattle.graph.proofs.Laws.{front-step, front-end}
+use Rattle.graph.proofs.Laws.{front-end}
 use Rattle.whole.specs.Ints.{rd}
+use Rattle.whole.specs.Stores.{copy-next}
 use borrow.Author.Needs.{needs, sfits-of}
 use mir.Val.{SFits}
 use mir.Syntax.{w64}
@@ -28,7 +29,7 @@ loop-again c =
     let a = c .before .before .before .args in
     let f : SFits w64 (getD (now (a .weights)) (l .k) (pos 0)) = sfits-of (c .w .given) in
     let n : length (now (a .lin)) ≡ 64 = c .before .before .before .pre .1 in
-    (omega arith, front-step (now (a .weights)) (now (a .lin)) (l .lin) (l .k) _ (pos 0) (omega arith) (omega arith) (l .inv .1) (rd f))
+    (omega arith, copy-next (now (a .weights)) (now (a .lin)) (l .lin) (l .k) _ (pos 0) (omega arith) (omega arith) (l .inv .1) (rd f))
 
 returns : tie.Need-returns Inv-loop μ-loop
 returns c =

@@ -1,12 +1,12 @@
-use mathlib.Core.Path.{_≡_, refl, ap, _∙_}
-use mathlib.Core.List.{List, _++_, append-nil}
-use Prim.Native.Nat.{ℕ, _+_, _≤_, _<_, _-_}
+use mathlib.Core.Path.{_≡_, refl, _∙_}
+use mathlib.Core.List.{_++_, append-nil}
+use Prim.Native.Nat.{_+_, _≤_, _<_, _-_}
 use native.Mathlib.Omega.{arith}
 use borrow.Author.Needs.{needs}
 use denote.Ref.{now}
-use lib.ListN.{length, getD, set, take, drop, length-set}
+use lib.ListN.{length, getD, take, drop, length-set}
 use lib.Seq.{drop-length}
-use Rattle.plans.proofs.ListLaws.{copy-more}
+use Rattle.whole.specs.Stores.{copy-next}
 use Rattle.plans.proofs.write_front.Statement.{statement}
 use Rattle.plans.proofs.write_front.Tie as tie
 
@@ -29,7 +29,7 @@ loop-again c =
     let d : l .k < length (now (a .out)) = omega (arith, l .inv .1) in (
       omega arith,
       length-set (l .out) (l .k) v ∙ l .inv .1,
-      ap (λ (o : List ℕ). set o (l .k) v) (l .inv .2) ∙ copy-more (now (a .out)) (a .t1) (l .k) d (omega (arith, s .pre)),
+      copy-next (a .t1) (now (a .out)) (l .out) (l .k) v 0 (omega (arith, s .pre)) d (l .inv .2) refl,
     )
 
 returns : tie.Need-returns Inv-loop μ-loop

@@ -9,7 +9,7 @@ use mir.Val.{SFits}
 use Rattle.whole.specs.Ints.{rd}
 use Rattle.rules.specs.ReadText.{got, number32, terms}
 use Rattle.read_text.specs.ReadLaws.{terms-step, terms-end}
-use Rattle.read_text.specs.LineLaws.{front-more}
+use Rattle.whole.specs.Stores.{front-more}
 use Rattle.read_text.specs.Seen.{seen32, seenZ}
 use Rattle.read_text.proofs.read_terms.Statement.{statement}
 use Rattle.read_text.proofs.read_terms.Tie as tie

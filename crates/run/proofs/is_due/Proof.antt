@@ -4,9 +4,10 @@ use borrow.Author.Needs.{needs}
 use denote.Ref.{now}
 use Rattle.rules.specs.Run as run
 use Rattle.state.specs.Holds.{lent}
-use Rattle.run.specs.TurnLaws.{waits-due, none-due, block-due, not-none, is-none}
+use Rattle.run.specs.TurnLaws.{waits-due, none-due, block-due}
 use Rattle.run.proofs.is_due.Statement.{statement}
 use Rattle.run.proofs.is_due.Tie as tie
+use Rattle.whole.specs.Tests.{same-eqb, other-eqb}
 
 returns : tie.Need-returns
 returns c = λ S l m q h.
@@ -26,8 +27,8 @@ returns-2 c = λ S l m q h.
     let order = f .result .order in
     let count = f .result .count in
     record {
-      no = λ z. none-due (a .switches) S (a .s) w h order count (one .if1 .left) (f .ensures .is l) (is-none count z);
-      yes = λ z. (run.blocked (a .switches) (take count order) S, block-due (a .switches) S (a .s) w h order count (one .if1 .left) (f .ensures .is l) (not-none count z));
+      no = λ z. none-due (a .switches) S (a .s) w h order count (one .if1 .left) (f .ensures .is l) (same-eqb count 0 z);
+      yes = λ z. (run.blocked (a .switches) (take count order) S, block-due (a .switches) S (a .s) w h order count (one .if1 .left) (f .ensures .is l) (other-eqb count 0 z));
     }
 
 pub is-due-spec : {M : Type 1} → statement M

@@ -5,7 +5,7 @@ use borrow.Author.Needs.{needs}
 use lib.ListN.{length, take, drop, getD, length-set, length-drop}
 use lib.Seq.{getD-drop, take-all}
 use denote.Ref.{now}
-use Rattle.record.proofs.Stores.{fill-next}
+use Rattle.whole.specs.Stores.{fill-next}
 use Rattle.record.proofs.read.states_in.Statement.{statement}
 use Rattle.record.proofs.read.states_in.Tie as tie
 
