@@ -4,11 +4,11 @@ use mathlib.Core.Path.{_≡_}
 use mathlib.Core.Bool.{cond}
 use mathlib.Core.List.{List}
 use Prim.Native.Nat.{ℕ, _+_, _<_, _≤_}
-use lib.ListN.{length, take}
+use lib.ListN.{length}
 use lib.IntN.{ℤ}
 use Rattle.rules.specs.Objective.{smallBlock}
-use Rattle.rules.specs.Graph.{graph, neighbours}
-use Rattle.rules.specs.SmallBlock.{Block, none, findBlock}
+use Rattle.rules.specs.Graph.{neighbours}
+use Rattle.rules.specs.SmallBlock.{none, findBlock}
 use Rattle.rules.specs.Run as run
 use Rattle.meaning.specs.Growth.{Network}
 use Rattle.graph.specs.Held.{held}
@@ -18,7 +18,7 @@ use Rattle.block_elimination.specs.Block.{Eliminable}
 use Rattle.graph.specs.Shows.{Shows}
 use Rattle.steps.specs.Kept.{Kept}
 use Rattle.steps.specs.declared.Steps.{Steps}
-use Rattle.state.specs.Holds.{Lent, graphIn, Holds}
+use Rattle.state.specs.Holds.{Counted, Lent, graphIn, Holds}
 use Rattle.state.specs.declared.State.{State}
 use Rattle.block_turn.specs.declared.Gone.{Gone}
 
@@ -39,12 +39,7 @@ pub record Takeable (s : State) (w : Lent) (before : Steps) (order : List ℕ) (
   pub ring : length (w .ring) ≡ 64
   pub eight : count ≤ 8
   pub room : before .count + count ≤ 64
-  pub members : s .tally .«in_blocks» ≤ 64
-  pub eliminated : s .tally .eliminated ≤ 64
-  pub three : s .tally .three ≤ 64
-  pub contracted : s .tally .contracted ≤ 64
-  pub weakly : s .tally .weakly ≤ 64
-  pub skipped : s .tally .skipped < 4294967295
+  pub counted : Counted (s .tally)
   pub blocks : s .blocks < 4294967295
 
 abbrev pub Blocks : State → Lent → Steps → List ℕ → ℕ → Gone → Lent → Type 0

@@ -1,17 +1,14 @@
 -- What a run that goes on gives its parts: room for every count, edges that can be searched, a block that can be eliminated.
 -- Assumes nothing.
-use mathlib.Core.Path.{_≡_, refl, sym, ap, _∙_, subst}
+use mathlib.Core.Path.{_≡_, sym, ap, _∙_, subst}
 use mathlib.Core.Bool.{true}
-use mathlib.Core.List.{List, [], _∷_}
+use mathlib.Core.List.{List}
 use mathlib.Core.Logic.{_≢_}
 use Prim.Native.Nat.{ℕ, _+_, _<_, _≤_}
 use native.Mathlib.Omega.{arith}
-use lib.ListN.{length, getD, take}
+use lib.ListN.{length, take}
 use lib.Seq.{length-take-le}
 use lib.IntN.{ℤ}
-use borrow.Author.Tests.{eq-eqb}
-use Rattle.whole.specs.Words.{mem}
-use Rattle.whole.specs.Tests.{clash}
 use Rattle.whole.specs.Pigeon.{pigeon}
 use Rattle.whole.specs.Members.{few}
 use Rattle.rules.specs.Graph.{Graph, active, actives, neighbours}
@@ -26,7 +23,6 @@ use Rattle.run_laws.specs.QueueLaws.{actives-apart}
 use Rattle.run_laws.specs.RemainingLaws.{remaining-count, to-actives}
 use Rattle.run_laws.specs.InOrder.{Room}
 use Rattle.run_laws.specs.InOrderLaws.{in-order-room, in-order-within}
-use Rattle.graph.specs.Held.{held}
 use Rattle.small_block.specs.Held.{blockBy}
 use Rattle.small_block.specs.Seeking.{a-block}
 use Rattle.block_elimination.specs.Block.{Eliminable}
@@ -35,7 +31,7 @@ use Rattle.block_turn.specs.Blocks as blocks
 use Rattle.take.specs.Ready as take
 use Rattle.steps.specs.Kept as steps
 use Rattle.steps.specs.declared.Steps.{Steps}
-use Rattle.state.specs.Holds.{Lent, graphIn, tallyOf}
+use Rattle.state.specs.Holds.{Lent, graphIn, tallyOf, Counted}
 use Rattle.state.specs.declared.State.{State}
 use Rattle.graph.specs.declared.Frame.{Frame}
 use Rattle.sound_run.specs.SoundStart.{start-stands}
@@ -69,20 +65,21 @@ module _ (s : State) (w : Lent) (g : Going s w) where
   counted : (f : run.Tally → ℕ) → f (tallyOf (s .tally)) ≡ f (S .counted)
   counted f = ap f (g .holds .counted)
 
+  going-counted : s .takes + s .blocks < 4294967295 → Counted (s .tally)
+  going-counted u = record {
+    eliminated = omega (arith, counted (λ (t : run.Tally). t .eliminated), room .eliminated);
+    three = omega (arith, counted (λ (t : run.Tally). t .three), room .three);
+    skipped = omega (arith, counted (λ (t : run.Tally). t .skipped), room .skipped, g .holds .takes);
+    contracted = omega (arith, counted (λ (t : run.Tally). t .contracted), room .contracted);
+    weakly = omega (arith, counted (λ (t : run.Tally). t .weakly), room .weakly);
+    inBlocks = omega (arith, counted (λ (t : run.Tally). t .inBlocks), room .inBlocks);
+  }
+
   pub going-takeable : s .takes + s .blocks < 4294967295 → s .queue .len ≢ 0 → take.Takeable s w
   going-takeable u q = record {
     someone = omega arith;
     units = omega arith;
-    few = omega (arith, going-fine .shaped .few);
-    within = going-within;
-    shown = g .holds .shown;
-    kept = g .holds .kept;
-    eliminated = omega (arith, counted (λ (t : run.Tally). t .eliminated), room .eliminated);
-    three = omega (arith, counted (λ (t : run.Tally). t .three), room .three);
-    contracted = omega (arith, counted (λ (t : run.Tally). t .contracted), room .contracted);
-    weakly = omega (arith, counted (λ (t : run.Tally). t .weakly), room .weakly);
-    inBlocks = omega (arith, counted (λ (t : run.Tally). t .inBlocks), room .inBlocks);
-    skipped = omega (arith, counted (λ (t : run.Tally). t .skipped), room .skipped, g .holds .takes);
+    steady = record { few = omega (arith, going-fine .shaped .few); within = going-within; shown = g .holds .shown; kept = g .holds .kept; counted = going-counted u };
   }
 
   pub going-searchable : blocks.Searchable s (w .edges)
@@ -113,12 +110,7 @@ module _ (s : State) (w : Lent) (g : Going s w) where
       ring = g .holds .kept .long;
       eight = members-few block;
       room = omega (arith, k .count, steps-left, members-active);
-      members = omega (arith, counted (λ (t : run.Tally). t .inBlocks), room .inBlocks);
-      eliminated = omega (arith, counted (λ (t : run.Tally). t .eliminated), room .eliminated);
-      three = omega (arith, counted (λ (t : run.Tally). t .three), room .three);
-      contracted = omega (arith, counted (λ (t : run.Tally). t .contracted), room .contracted);
-      weakly = omega (arith, counted (λ (t : run.Tally). t .weakly), room .weakly);
-      skipped = omega (arith, counted (λ (t : run.Tally). t .skipped), room .skipped, g .holds .takes);
+      counted = going-counted u;
       blocks = omega arith;
     }
 

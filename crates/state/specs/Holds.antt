@@ -3,6 +3,7 @@
 use mathlib.Core.Path.{_≡_}
 use mathlib.Core.List.{List}
 use Prim.Native.Nat.{ℕ, _+_, _<_, _≤_}
+use native.Mathlib.Omega.{arith}
 use lib.IntN.{ℤ}
 use Rattle.whole.specs.Masks.{these}
 use Rattle.rules.specs.Graph.{Graph, neighbours}
@@ -18,6 +19,24 @@ use Rattle.state.specs.declared.State.{State}
 abbrev pub tallyOf : Tally → run.Tally
 tallyOf t = run.tally (t .eliminated) (t .three) (t .skipped) (t .contracted) (t .weakly) (t .«in_blocks»)
 
+-- what a run of at most 64 decisions has counted
+pub record Counted (t : Tally) : Type 0 where
+  pub eliminated : t .eliminated ≤ 64
+  pub three : t .three ≤ 64
+  pub skipped : t .skipped < 4294967295
+  pub contracted : t .contracted ≤ 64
+  pub weakly : t .weakly ≤ 64
+  pub inBlocks : t .«in_blocks» ≤ 64
+
+-- what one unit counts
+pub record OfOne (t : Tally) : Type 0 where
+  pub eliminated : t .eliminated ≤ 8
+  pub three : t .three ≤ 8
+  pub skipped : t .skipped ≤ 1
+  pub contracted : t .contracted ≤ 8
+  pub weakly : t .weakly ≤ 8
+  pub inBlocks : t .«in_blocks» ≤ 8
+
 -- each sum fits its 32 bits
 pub record Roomy (t u : Tally) : Type 0 where
   pub eliminated : t .eliminated + u .eliminated < 4294967296
@@ -26,6 +45,16 @@ pub record Roomy (t u : Tally) : Type 0 where
   pub contracted : t .contracted + u .contracted < 4294967296
   pub weakly : t .weakly + u .weakly < 4294967296
   pub inBlocks : t .«in_blocks» + u .«in_blocks» < 4294967296
+
+pub roomy : (t u : Tally) → Counted t → OfOne u → Roomy t u
+roomy t u c o = record {
+  eliminated = omega (arith, c .eliminated, o .eliminated);
+  three = omega (arith, c .three, o .three);
+  skipped = omega (arith, c .skipped, o .skipped);
+  contracted = omega (arith, c .contracted, o .contracted);
+  weakly = omega (arith, c .weakly, o .weakly);
+  inBlocks = omega (arith, c .inBlocks, o .inBlocks);
+}
 
 -- what the code has in arrays besides a state: the linear weights, the edges, the masks, the queue's ring
 pub record Lent : Type 0 where

@@ -10,22 +10,21 @@ use Rattle.rules.specs.Run as run
 use Rattle.rules.specs.Size.{Within}
 use Rattle.queue.specs.Items.{Kept}
 use Rattle.graph.specs.Shows.{Shows}
-use Rattle.state.specs.Holds.{Lent, graphIn, Holds}
+use Rattle.state.specs.Holds.{Counted, Lent, graphIn, Holds}
 use Rattle.state.specs.declared.State.{State}
 use Rattle.take.specs.declared.Taken.{Taken}
 
-pub record Ready (s : State) (w : Lent) (i : ℕ) : Type 0 where
-  pub below : i < 64
+-- a state within the size rule, whose masks, queue and counts are as they should be
+pub record Steady (s : State) (w : Lent) : Type 0 where
   pub few : s .frame .n ≤ 64
   pub within : Within (graphIn s w)
   pub shown : Shows (s .frame .n) (w .edges) (w .masks)
   pub kept : Kept (s .queue) (w .ring)
-  pub eliminated : s .tally .eliminated ≤ 64
-  pub three : s .tally .three ≤ 64
-  pub contracted : s .tally .contracted ≤ 64
-  pub weakly : s .tally .weakly ≤ 64
-  pub inBlocks : s .tally .«in_blocks» ≤ 64
-  pub skipped : s .tally .skipped < 4294967295
+  pub counted : Counted (s .tally)
+
+pub record Ready (s : State) (w : Lent) (i : ℕ) : Type 0 where
+  pub below : i < 64
+  pub steady : Steady s w
 
 -- a take that goes from S to T: what the code holds after it, and the step that it made, if any
 pub record Went (S T : run.State) (r : Taken) (w : Lent) : Type 0 where
@@ -41,16 +40,7 @@ Goes f s w r w′ = (S : run.State) → Holds S s w → Went S (f S) r w′
 pub record Takeable (s : State) (w : Lent) : Type 0 where
   pub someone : 0 < s .queue .len
   pub units : s .takes < 4294967295
-  pub few : s .frame .n ≤ 64
-  pub within : Within (graphIn s w)
-  pub shown : Shows (s .frame .n) (w .edges) (w .masks)
-  pub kept : Kept (s .queue) (w .ring)
-  pub eliminated : s .tally .eliminated ≤ 64
-  pub three : s .tally .three ≤ 64
-  pub contracted : s .tally .contracted ≤ 64
-  pub weakly : s .tally .weakly ≤ 64
-  pub inBlocks : s .tally .«in_blocks» ≤ 64
-  pub skipped : s .tally .skipped < 4294967295
+  pub steady : Steady s w
 
 -- the front i of the queue is taken, and q waits behind it
 abbrev pub Takes : State → Lent → ℕ → Taken → Lent → Type 0

@@ -3,7 +3,7 @@
 use mathlib.Core.Path.{_≡_, refl, sym, ap, _∙_, subst}
 use mathlib.Core.Bool.{true}
 use mathlib.Core.List.{List}
-use Prim.Native.Nat.{ℕ, _≤_}
+use Prim.Native.Nat.{ℕ}
 use native.Mathlib.Omega.{arith}
 use lib.ListN.{getD}
 use lib.IntN.{ℤ}
@@ -18,39 +18,20 @@ use Rattle.graph.specs.Held.{held}
 use Rattle.graph.specs.Shows.{Shows}
 use Rattle.graph.specs.ShowsLaws as graph
 use Rattle.graph.specs.declared.Frame.{Frame}
-use Rattle.state.specs.Holds.{Lent, lent, graphIn, tallyOf, Roomy, Holds, Reducible, Reduces}
+use Rattle.state.specs.Holds.{OfOne, Lent, lent, graphIn, tallyOf, roomy, Holds, Reducible, Reduces}
 use Rattle.state.specs.declared.State.{State}
 use Rattle.state.specs.declared.Tally.{Tally}
 use Rattle.take.specs.Ready.{Ready, Went}
-use Rattle.take.specs.declared.Taken.{Taken}
 
 -- one reduction adds at most 1 to each count, and none to those in blocks
-pub record Single (t : Tally) : Type 0 where
-  pub eliminated : t .eliminated ≤ 1
-  pub three : t .three ≤ 1
-  pub skipped : t .skipped ≤ 1
-  pub contracted : t .contracted ≤ 1
-  pub weakly : t .weakly ≤ 1
-  pub inBlocks : t .«in_blocks» ≡ 0
-
 module _ (s : State) (w : Lent) (i : ℕ) (r : Ready s w i) where
   -- the mask of i shows its neighbours
   pub around : these (getD (w .masks) i 0) ≡ neighbours (graphIn s w) i
-  around = graph.shown (s .frame .n) (w .edges) (w .masks) (r .shown) (r .few) (s .frame .constant) (w .linear) (s .frame .states) i (r .below)
-
-  roomy : (t : Tally) → Single t → Roomy (s .tally) t
-  roomy t o = record {
-    eliminated = omega (arith, r .eliminated, o .eliminated);
-    three = omega (arith, r .three, o .three);
-    skipped = omega (arith, r .skipped, o .skipped);
-    contracted = omega (arith, r .contracted, o .contracted);
-    weakly = omega (arith, r .weakly, o .weakly);
-    inBlocks = omega (arith, r .inBlocks, o .inBlocks);
-  }
+  around = graph.shown (s .frame .n) (w .edges) (w .masks) (r .steady .shown) (r .steady .few) (s .frame .constant) (w .linear) (s .frame .states) i (r .below)
 
   -- f is the frame of what is left, as large as before
-  pub reducible : (f : Frame) (t : Tally) → f .n ≡ s .frame .n → Single t → Reducible s f t (w .ring)
-  reducible f t n o = record { few = omega (arith, r .few, n); kept = r .kept; roomy = roomy t o }
+  pub reducible : (f : Frame) (t : Tally) → f .n ≡ s .frame .n → OfOne t → Reducible s f t (w .ring)
+  reducible f t n o = record { few = omega (arith, r .steady .few, n); kept = r .steady .kept; roomy = roomy (s .tally) t (r .steady .counted) o }
 
   -- the graph changes, a step is made, and the neighbours as they were rejoin
   pub finish : (sw : ℕ) (f : Frame) (x : Step) (t : Tally) (r : State) (l e : List ℤ) (m q : List ℕ) → Reduces s f (getD (w .masks) i 0) t sw r m (w .ring) q

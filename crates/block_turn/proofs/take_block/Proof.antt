@@ -15,6 +15,7 @@ use Rattle.steps.specs.Kept as steps
 use Rattle.state.specs.SameN.{block-n}
 use Rattle.block_turn.proofs.take_block.Statement.{statement}
 use Rattle.block_turn.proofs.take_block.Tie as tie
+use Rattle.state.specs.Holds.{roomy}
 
 -- once the block has gone
 module _ (z : tie.After-eliminate-block) where
@@ -32,14 +33,7 @@ first-queue-requires c κs = let z = c .before .before .before .before .before .
 more-requires : tie.Need-more-requires
 more-requires c κs =
     let p = c .before .before .before .before .before .before .before .before .before .before .before .before .before .pre in
-    record {
-      eliminated = omega (arith, p .eliminated);
-      three = omega (arith, p .three);
-      skipped = omega (arith, p .skipped);
-      contracted = omega (arith, p .contracted);
-      weakly = omega (arith, p .weakly);
-      inBlocks = omega (arith, p .members, p .eight);
-    }
+    roomy _ _ (p .counted) (record { eliminated = omega arith; three = omega arith; skipped = omega arith; contracted = omega arith; weakly = omega arith; inBlocks = p .eight })
 
 add-t27 : tie.Need-add-t27
 add-t27 c = omega (arith, c .before .before .before .before .before .before .before .before .before .before .before .before .before .before .before .pre .blocks)

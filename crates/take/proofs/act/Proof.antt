@@ -38,7 +38,7 @@ module _ (nb : tie.After-neighbours) where
   near =
       let a = start .args in
       let r = start .pre in
-      nb .neighbours .ensures (a .s .frame .n) (r .few) (r .shown) (a .s .frame .constant) (now (a .lin)) (a .s .frame .states)
+      nb .neighbours .ensures (a .s .frame .n) (r .steady .few) (r .steady .shown) (a .s .frame .constant) (now (a .lin)) (a .s .frame .states)
 
   count : nb .neighbours .result .count ≡ degree (whole (nb .before .before .before .before .before)) (nb .before .before .before .before .before .args .i)
   count = near-count (whole start) (start .args .i) (nb .neighbours .result) near

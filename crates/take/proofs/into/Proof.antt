@@ -1,4 +1,4 @@
-use mathlib.Core.Path.{_≡_, refl, ap, _∙_, subst}
+use mathlib.Core.Path.{_≡_, ap, _∙_, subst}
 use mathlib.Core.Bool.{true}
 use Prim.Native.Nat.{ℕ}
 use native.Mathlib.Omega.{arith}
@@ -31,7 +31,7 @@ contract-requires : tie.Need-contract-requires
 contract-requires c κs =
     let s = c .before .before .before .before in
     let r = s .pre .0 in
-    (r .below, s .pre .2, r .few, r .within, around (s .args .s) (before s) (s .args .i) r, r .shown)
+    (r .below, s .pre .2, r .steady .few, r .steady .within, around (s .args .s) (before s) (s .args .i) r, r .steady .shown)
 
 reduced-requires : tie.Need-reduced-requires
 reduced-requires c κs =
@@ -39,7 +39,7 @@ reduced-requires c κs =
     let z = u .before in
     let s = start z in
     reducible (s .args .s) (before s) (s .args .i) (s .pre .0) _ _ (same-n z)
-    (record { eliminated = omega arith; three = omega arith; skipped = omega arith; contracted = omega arith; weakly = u .one-if .ensures .1; inBlocks = refl })
+    (record { eliminated = omega arith; three = omega arith; skipped = omega arith; contracted = omega arith; weakly = omega (arith, u .one-if .ensures .1); inBlocks = omega arith })
 
 returns : tie.Need-returns
 unfolding run.go

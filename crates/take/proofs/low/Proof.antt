@@ -1,4 +1,4 @@
-use mathlib.Core.Path.{_≡_, refl, ap, _∙_}
+use mathlib.Core.Path.{_≡_, ap, _∙_}
 use native.Mathlib.Omega.{arith}
 use borrow.Author.Needs.{needs}
 use denote.Ref.{now}
@@ -28,7 +28,7 @@ reduced-requires c κs =
     let z = c .before .before .before .before in
     let s = start z in
     reducible (s .args .s) (before s) (s .args .i) (s .pre .0) _ _ (same-n z)
-    (record { eliminated = omega arith; three = omega arith; skipped = omega arith; contracted = omega arith; weakly = omega arith; inBlocks = refl })
+    (record { eliminated = omega arith; three = omega arith; skipped = omega arith; contracted = omega arith; weakly = omega arith; inBlocks = omega arith })
 
 returns : tie.Need-returns
 unfolding run.go

@@ -24,7 +24,7 @@ dominant-of-requires : tie.Need-dominant-of-requires
 dominant-of-requires c κs =
     let s = c .before .before .before .before .before in
     let r = s .pre .0 in
-    (r .below, record { each = r .within .linear }, record { each = r .within .edges })
+    (r .below, record { each = r .steady .within .linear }, record { each = r .steady .within .edges })
 
 -- the way that the rules go from a graph
 abbrev chosen : ℕ → ℕ → Graph → Way

@@ -10,20 +10,8 @@ use Rattle.take.proofs.take.Tie as tie
 act-requires : tie.Need-act-requires
 act-requires c κs =
     let z = c .before .before .before .before .before in
-    let p = z .before .before .pre in
-    record {
-      below = z .pop .ensures .1;
-      few = p .few;
-      within = p .within;
-      shown = p .shown;
-      kept = z .pop .ensures .2;
-      eliminated = p .eliminated;
-      three = p .three;
-      contracted = p .contracted;
-      weakly = p .weakly;
-      inBlocks = p .inBlocks;
-      skipped = p .skipped;
-    }
+    let p = z .before .before .pre .steady in
+    record { below = z .pop .ensures .1; steady = record { few = p .few; within = p .within; shown = p .shown; kept = z .pop .ensures .2; counted = p .counted } }
 
 returns : tie.Need-returns
 unfolding run.takeFront

@@ -52,7 +52,7 @@ reduced-requires c κs =
     let z = one .before in
     let s = start z in
     reducible (s .args .s) (before s) (s .args .i) (s .pre .0) _ _ (same-n z (sym (z .eliminate-three .ensures .0) ∙ one .if1 .left))
-    (record { eliminated = omega arith; three = omega arith; skipped = omega arith; contracted = omega arith; weakly = omega arith; inBlocks = refl })
+    (record { eliminated = omega arith; three = omega arith; skipped = omega arith; contracted = omega arith; weakly = omega arith; inBlocks = omega arith })
 
 returns-2 : tie.Need-returns-2
 unfolding run.go
