@@ -5,3 +5,4 @@ pub mod Outputs
 pub mod RunEnds
 pub mod Theorems
 pub mod LeastLaws
+pub mod Behind

@@ -90,7 +90,7 @@ unfolding fix dropTo addConstant
 fix-n i zero g = refl
 fix-n i (suc v) g = spread-n g i (neighbours g i) (addConstant (lin g i) (dropTo 1 i g))
 
-fix-cost : (i v : ℕ) (g : Graph) → Shaped g → i < g .n → v < 2 → (x : ℕ → Bool) → cost (fix i v g) x ≡ cost g (setAt i (eqb v 1) x)
+pub fix-cost : (i v : ℕ) (g : Graph) → Shaped g → i < g .n → v < 2 → (x : ℕ → Bool) → cost (fix i v g) x ≡ cost g (setAt i (eqb v 1) x)
 fix-cost i zero g s l h x = reduced-plan g i s l (fix-0-reduces g i s l) x
 fix-cost i (suc zero) g s l h x = reduced-plan g i s l (fix-1-reduces g i s l) x
 fix-cost i (suc (suc v)) g s l h x = absurd (omega arith)

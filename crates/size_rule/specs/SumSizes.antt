@@ -20,7 +20,7 @@ use Rattle.size_rule.specs.Sizes.{add-size, part-size, when-size, chosen
 
 module _ (g : Graph) (w : Within g) where
   -- i's edges, to whatever decisions
-  row-each : (i : ℕ) (js : List ℕ) → Small 2199023255552 (row g i js)
+  pub row-each : (i : ℕ) (js : List ℕ) → Small 2199023255552 (row g i js)
   row-each i js = small-map (edge g i) js (λ j. w .edges (64 * i + j))
 
   pub chosen-edges : (i : ℕ) (js : List ℕ) (m : ℕ) → ∣ chosen (row g i js) m ∣ ≤ length js * 2199023255552
@@ -33,11 +33,11 @@ module _ (g : Graph) (w : Within g) where
   -- ---- Eliminate and degree three, at degree at most 3
   module _ (i : ℕ) (few : degree g i ≤ 3) where
     -- 7·2^40
-    delta-three : (m : ℕ) → ∣ delta g i m ∣ ≤ 7696581394432
+    pub delta-three : (m : ℕ) → ∣ delta g i m ∣ ≤ 7696581394432
     delta-three m = omega (arith, delta-size (lin g i) (row g i (neighbours g i)) (w .linear i) (row-each i (neighbours g i)) m, length-map (neighbours g i) (edge g i))
 
     -- "T the smaller of delta and 0"
-    tee-three : (m : ℕ) → ∣ tee g i m ∣ ≤ 7696581394432
+    pub tee-three : (m : ℕ) → ∣ tee g i m ∣ ≤ 7696581394432
     tee-three m = omega (arith, below0-abs (delta g i m), delta-three m)
 
     pub tees-three : Small 7696581394432 (tab (tee g i) 8)
