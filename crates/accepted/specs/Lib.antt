@@ -1,3 +1,4 @@
 pub mod Accept
 pub mod Mass
 pub mod Small
+pub mod Rows

@@ -1,17 +1,17 @@
 -- What stands at the end of a run: the states, against the fixings and the steps.
 -- Assumes nothing.
-use mathlib.Core.Path.{_≡_, refl, sym, ap, _∙_}
+use mathlib.Core.Path.{_≡_, sym, ap, _∙_}
 use mathlib.Core.Bool.{false}
-use mathlib.Core.List.{List, [], _∷_}
+use mathlib.Core.List.{List}
 use Prim.Native.Nat.{ℕ, _-_, _<_}
 use native.Mathlib.Omega.{arith}
 use lib.Dec.{eqb}
-use lib.ListN.{length, getD, set, take, replicate, length-set, List·getD-append}
-use lib.Seq.{getD-set-other, length-take-le, getD-take}
+use lib.ListN.{length, getD, take, replicate, List·getD-append}
+use lib.Seq.{length-take-le, getD-take}
 use borrow.Author.Tests.{eqb-true}
 use Rattle.whole.specs.Words.{upto, mem, those}
 use Rattle.whole.specs.Tests.{refuse}
-use Rattle.whole.specs.Members.{out-cons, upto-in}
+use Rattle.whole.specs.Members.{upto-in}
 use Rattle.whole.specs.Masks.{those-ext}
 use Rattle.rules.specs.Objective.{Objective}
 use Rattle.rules.specs.Graph.{Graph, active, actives}
@@ -19,10 +19,10 @@ use Rattle.rules.specs.Eliminate.{Step}
 use Rattle.rules.specs.Run.{ended}
 use Rattle.rules.specs.Back.{remainingOf}
 use Rattle.accepted.specs.Accept.{Fit}
-use Rattle.meaning.specs.Stands.{Fine, marked}
+use Rattle.meaning.specs.Stands.{Fine, marked, marked-other}
 use Rattle.sound_run.specs.Sound.{Steps, decisions}
 use Rattle.run_laws.specs.StepLaws.{steps-alive}
-use Rattle.sound_run.specs.SoundStart.{statesFrom, start-stands, ended-sound}
+use Rattle.sound_run.specs.SoundStart.{statesFrom, start-stands, ended-sound, ended-n}
 
 -- ---- steps and states
 -- what is fixed is no step's decision
@@ -31,11 +31,6 @@ fixed-stays n ss steps t i h = refuse (mem i (decisions steps)) (λ m. two (eqb-
   where
     two : getD ss i 0 ≡ 2 → ⊥
     two e = omega arith
-
-pub marked-other : (b ss : List ℕ) (i : ℕ) → mem i b ≡ false → getD (marked b ss) i 0 ≡ getD ss i 0
-unfolding marked
-marked-other [] ss i h = refl
-marked-other (j ∷ b) ss i h = let p = out-cons i j b h in marked-other b (set ss j 3) i (p .1) ∙ getD-set-other ss j i 3 0 (p .0)
 
 -- ---- the end of the run: its graph, its steps, and the states of the n decisions
 abbrev pub endGraph : Objective → Graph
@@ -49,9 +44,6 @@ shown o = take (o .n) (endGraph o .states)
 
 -- ---- of an objective that is not refused
 module _ (o : Objective) (fit : Fit o) where
-  pub end-n : endGraph o .n ≡ o .n
-  end-n = ended-sound o fit .stands .size ∙ start-stands o fit .size
-
   pub end-fine : Fine (endGraph o)
   end-fine = ended-sound o fit .stands .fine
 
@@ -84,4 +76,4 @@ module _ (o : Objective) (fit : Fit o) where
   shown-remaining =
       ap (λ (n : ℕ). those (λ i. eqb (getD (shown o) i 0) 2) (upto n)) shown-long
       ∙ those-ext (λ i. eqb (getD (shown o) i 0) 2) (λ i. active (endGraph o) i) (upto (o .n)) (λ k m. ap (λ (z : ℕ). eqb z 2) (shown-at k (upto-in k (o .n) m)))
-      ∙ ap (λ (n : ℕ). those (λ i. active (endGraph o) i) (upto n)) (sym end-n)
+      ∙ ap (λ (n : ℕ). those (λ i. active (endGraph o) i) (upto n)) (sym (ended-n o fit))

@@ -1,29 +1,29 @@
 -- The bounds of a graph's weights: of a decision's edges, and of what is left when a decision is dropped.
 -- Assumes nothing.
 use mathlib.Core.Path.{_≡_, sym, subst}
-use mathlib.Core.List.{map}
+use mathlib.Core.List.{List}
 use Prim.Native.Nat.{ℕ, zero, suc, _+_, _*_, _≤_}
 use native.Mathlib.Omega.{arith}
 use lib.ListN.{getD}
-use lib.IntN.{pos}
+use lib.IntN.{ℤ, pos}
 use Rattle.whole.specs.Parts.{∣_∣}
 use Rattle.rules.specs.Graph.{Graph, dropTo, neighbours}
 use Rattle.rules.specs.Size.{Within}
-use Rattle.accepted.specs.Small.{Small, small-set, small-clear, map-at-most}
+use Rattle.accepted.specs.Small.{Small, small-set, small-clear, small-map}
 use Rattle.graph.specs.Near.{three, nearOf}
+
+pub small-three : {b : ℕ} {ws : List ℤ} → Small b ws → Small b (three ws (pos 0))
+small-three {b} {ws} s = record { each = at }
+  where
+    at : (k : ℕ) → ∣ getD (three ws (pos 0)) k (pos 0) ∣ ≤ b
+    at zero = s .each 0
+    at (suc zero) = s .each 1
+    at (suc (suc zero)) = s .each 2
+    at (suc (suc (suc k))) = omega arith
 
 pub small-near : {b : ℕ} (g : Graph) (i : ℕ) → Small b (g .edges) → Small b (nearOf g i .weights)
 unfolding nearOf
-small-near {b} g i s = record { each = three-at-most }
-  where
-    at-most : (k : ℕ) → ∣ getD (map (λ j. getD (g .edges) (64 * i + j) (pos 0)) (neighbours g i)) k (pos 0) ∣ ≤ b
-    at-most k = map-at-most b (λ j. getD (g .edges) (64 * i + j) (pos 0)) (neighbours g i) k (λ j. s .each (64 * i + j))
-
-    three-at-most : (k : ℕ) → ∣ getD (three (map (λ j. getD (g .edges) (64 * i + j) (pos 0)) (neighbours g i)) (pos 0)) k (pos 0) ∣ ≤ b
-    three-at-most zero = at-most 0
-    three-at-most (suc zero) = at-most 1
-    three-at-most (suc (suc zero)) = at-most 2
-    three-at-most (suc (suc (suc k))) = omega arith
+small-near g i s = small-three (small-map (λ j. getD (g .edges) (64 * i + j) (pos 0)) (neighbours g i) (λ j. s .each (64 * i + j)))
 
 -- the size rule's bounds hold of what is left when a decision is dropped
 module _ (s i : ℕ) (g d : Graph) (h : d ≡ dropTo s i g) (w : Within g) where

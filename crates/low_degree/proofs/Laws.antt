@@ -33,6 +33,7 @@ use Rattle.size_rule.specs.Sizes.{delta-size, gain-size}
 use Rattle.graph.specs.declared.Frame.{Frame}
 use Rattle.low_degree.specs.Table.{deltasOf}
 use Rattle.low_degree.specs.AbsorbLaws.{pair-whole, absorb-same}
+use Rattle.graph.specs.Small.{small-three}
 
 -- the smaller of a weight and 0, kept and read back
 pub read-below : (z r : ℤ) → SFits w64 z → r ≡ below0 (toZ w64 (ofZ w64 z)) → toZ w64 (ofZ w64 r) ≡ below0 z
@@ -41,15 +42,6 @@ read-below z r f e =
     rw k (lt-ind z (pos 0) (λ t. toZ w64 (ofZ w64 (cond t z (pos 0))) ≡ cond t z (pos 0)) (λ h. rd f) (λ h. refl))
 
 -- ---- the table
-small-three : {b : ℕ} {ws : List ℤ} → Small b ws → Small b (three ws (pos 0))
-small-three {b} {ws} s = record { each = at }
-  where
-    at : (k : ℕ) → ∣ getD (three ws (pos 0)) k (pos 0) ∣ ≤ b
-    at zero = s .each 0
-    at (suc zero) = s .each 1
-    at (suc (suc zero)) = s .each 2
-    at (suc (suc (suc k))) = omega arith
-
 module _ (a : ℤ) (ws : List ℤ) where
   abbrev x : ℤ
   x = getD ws 0 (pos 0)

@@ -12,7 +12,6 @@ use native.Mathlib.Nat.{pow-suc}
 use lib.Pow.{pow-pos}
 use lib.Dec.{eqb}
 use lib.ListN.{length}
-use lib.Seq.{getD-set-other, getD-set-same}
 use lib.IntN.{ℤ, pos, _+ℤ_, +ℤ-idr}
 use lib.Signed.{ltZ, _≤ℤ_, _<ℤ_, ≤ℤ-refl}
 use borrow.Author.Tests.{eqb-true, eqb-false, eq-eqb, ne-eqb}
@@ -23,7 +22,7 @@ use Rattle.rules.specs.Graph.{Graph, lin, edge, row, dropTo}
 use Rattle.rules.specs.SmallBlock.{boundary, inner, cheapest, bestMask, blockTable, dropAll, eliminateBlock}
 use Rattle.whole.specs.Sum.{Σ-cong}
 use Rattle.meaning.specs.Cost.{shift-≤, regroup, swap-last, when, when-zero, row-zero, rowCost, costOf, deltaOf}
-use Rattle.meaning.specs.CostLaws.{cost, Shaped, drop-cost, clear-zero, clear-other}
+use Rattle.meaning.specs.CostLaws.{cost, Shaped, drop-cost, drop-lin, drop-own, drop-edge, drop-zero}
 use Rattle.whole.specs.Cmp.{zero-of}
 use Rattle.meaning.specs.EliminateLaws.{maskAt, odd-of, half-of, chosen-mask, shaped-drop, Pair, empty, single, double, absorb-cost}
 use Rattle.whole.specs.Pigeon.{Apart, none, one}
@@ -31,23 +30,13 @@ use Rattle.whole.specs.Tests.{cases, clash, and-both, not-off, on-not, off-not,
 use Rattle.whole.specs.Members.{nobody, in-cons, in-head, in-tail, out-append, out-cons, out-of-cons, differ, in-those, to-those, in-upto, some-true, apart-head, apart-new, apart-tail, apart-left, apart-right, apart-below, apart-join, apart-those, apart-upto, upto-in}
 use Rattle.meaning.specs.OverLists.{over-append, over-all}
 
--- ---- what dropping i leaves alone, and what it makes 0
+-- ---- what dropping i leaves alone
 module _ (g : Graph) (s : Shaped g) (i : ℕ) (li : i < g .n) where
-  drop-lin : (k : ℕ) → k ≢ i → lin (dropTo 3 i g) k ≡ lin g k
-  unfolding dropTo
-  drop-lin k d = getD-set-other (g .linear) i k (pos 0) (pos 0) d
-
-  drop-edge : (k j : ℕ) → k < g .n → j < g .n → k ≢ i → j ≢ i → edge (dropTo 3 i g) k j ≡ edge g k j
-  unfolding dropTo
-  drop-edge k j lk lj dk dj =
-      let few : g .n ≤ 64 = s .few in
-      clear-other i (g .edges) k j (omega arith) (omega arith) (omega arith) dk dj (g .n) few
-
   drop-row : (k : ℕ) → k < g .n → k ≢ i → {js : List ℕ} → Apart (g .n) js → mem i js ≡ false → row (dropTo 3 i g) k js ≡ row g k js
   drop-row k lk dk none h = refl
   drop-row k lk dk (one {x = x} {xs = xs} l m a) h =
       let p = out-cons i x xs h in
-      ap₂ (λ (z : ℤ) (zs : List ℤ). z ∷ zs) (drop-edge k x lk l dk (λ e. p .0 (sym e))) (drop-row k lk dk a (p .1))
+      ap₂ (λ (z : ℤ) (zs : List ℤ). z ∷ zs) (drop-edge g s 3 i li k x lk l dk (λ e. p .0 (sym e))) (drop-row k lk dk a (p .1))
 
   drop-inner : (out is : List ℕ) (f m : ℕ) → Apart (g .n) out → mem i out ≡ false → Apart (g .n) is → mem i is ≡ false
       → inner (dropTo 3 i g) out f is m ≡ inner g out f is m
@@ -56,7 +45,7 @@ module _ (g : Graph) (s : Shaped g) (i : ℕ) (li : i < g .n) where
   drop-inner out (k ∷ is) f m ao ho (one l n a) h =
       let p = out-cons i k is h in
       let d : k ≢ i = λ e. p .0 (sym e) in
-      rw (drop-lin k d, drop-row k l d ao ho, drop-row k l d a (p .1), drop-inner out is f (m / 2) ao ho a (p .1))
+      rw (drop-lin g s 3 i li k d, drop-row k l d ao ho, drop-row k l d a (p .1), drop-inner out is f (m / 2) ao ho a (p .1))
 
 -- ---- the members' own cost at a plan
 -- every edge of a member goes to a member or to `out`
@@ -86,7 +75,7 @@ module _ (x : ℕ → Bool) (out : List ℕ) where
   unfolding dropTo
   inside-drop g i is s a h k j mk lj mj = cases (eqb j i)
       (λ e. ap (edge (dropTo 3 i g) k) (eqb-true j i e) ∙ gone)
-      (λ e. drop-edge g s i li k j lk lj dk (eqb-false j i e) ∙ h k j (in-tail k i is mk) lj (out-of-cons j i (is ++ out) (eqb-false j i e) mj))
+      (λ e. drop-edge g s 3 i li k j lk lj dk (eqb-false j i e) ∙ h k j (in-tail k i is mk) lj (out-of-cons j i (is ++ out) (eqb-false j i e) mj))
     where
       li : i < g .n
       li = apart-head a
@@ -98,9 +87,7 @@ module _ (x : ℕ → Bool) (out : List ℕ) where
       dk = differ is mk (out-append i is out (apart-new a) .0)
 
       gone : edge (dropTo 3 i g) k i ≡ pos 0
-      gone =
-          let few : g .n ≤ 64 = s .few in
-          clear-zero i (g .edges) k (omega (arith, li)) (omega (arith, lk)) (s .edges-long) (g .n) few lk .1
+      gone = drop-zero g s 3 i li k lk .1
 
   -- the cost is what is left without the members, and the members' own cost
   pub inside-cost : (g : Graph) (b : List ℕ) → Shaped g → Apart (g .n) (b ++ out) → Inside g b out
@@ -221,26 +208,20 @@ pub record Gone (g : Graph) (i : ℕ) : Type 0 where
 
 gone-here : (g : Graph) (i : ℕ) → Shaped g → i < g .n → Gone (dropTo 3 i g) i
 unfolding dropTo
-gone-here g i s l =
-    let few : g .n ≤ 64 = s .few in
-    record {
-      weight = getD-set-same (g .linear) i (pos 0) (pos 0) (omega (arith, s .linear-long));
-      across = λ j m. clear-zero i (g .edges) j (omega arith) (omega arith) (s .edges-long) (g .n) few m .0;
-      down = λ j m. clear-zero i (g .edges) j (omega arith) (omega arith) (s .edges-long) (g .n) few m .1;
-    }
+gone-here g i s l = record { weight = drop-own g s 3 i l; across = λ j m. drop-zero g s 3 i l j m .0; down = λ j m. drop-zero g s 3 i l j m .1 }
 
 gone-stays : (g : Graph) (i k : ℕ) → Shaped g → i < g .n → k < g .n → k ≢ i → Gone g k → Gone (dropTo 3 i g) k
 unfolding dropTo
 gone-stays g i k s li lk d h =
     let here : Gone (dropTo 3 i g) i = gone-here g i s li in
     record {
-      weight = drop-lin g s i li k d ∙ h .weight;
+      weight = drop-lin g s 3 i li k d ∙ h .weight;
       across = λ j m. cases (eqb j i)
           (λ e. ap (edge (dropTo 3 i g) k) (eqb-true j i e) ∙ here .down k lk)
-          (λ e. drop-edge g s i li k j lk m d (eqb-false j i e) ∙ h .across j m);
+          (λ e. drop-edge g s 3 i li k j lk m d (eqb-false j i e) ∙ h .across j m);
       down = λ j m. cases (eqb j i)
           (λ e. ap (λ (t : ℕ). edge (dropTo 3 i g) t k) (eqb-true j i e) ∙ here .across k lk)
-          (λ e. drop-edge g s i li j k m lk (eqb-false j i e) d ∙ h .down j m);
+          (λ e. drop-edge g s 3 i li j k m lk (eqb-false j i e) d ∙ h .down j m);
     }
 
 gone-after : (b : List ℕ) (g : Graph) (k : ℕ) → Shaped g → Apart (g .n) b → k < g .n → mem k b ≡ false → Gone g k → Gone (dropAll b g) k

@@ -118,18 +118,34 @@ clear-zero i e q li lq le (suc c) lc h = go (ℕ-discrete q c) (λ t. clear-zero
               (omega (arith, clear-length i c e, length-set (clear i c e) (64 * i + c) (pos 0))),
         )
 
+-- what dropping i leaves alone, and what it makes 0
+module _ (g : Graph) (s : Shaped g) (t i : ℕ) (li : i < g .n) where
+  pub drop-lin : (k : ℕ) → k ≢ i → lin (dropTo t i g) k ≡ lin g k
+  unfolding dropTo
+  drop-lin k d = getD-set-other (g .linear) i k (pos 0) (pos 0) d
+
+  pub drop-own : lin (dropTo t i g) i ≡ pos 0
+  unfolding dropTo
+  drop-own = getD-set-same (g .linear) i (pos 0) (pos 0) (omega (arith, s .linear-long, s .few))
+
+  pub drop-edge : (k j : ℕ) → k < g .n → j < g .n → k ≢ i → j ≢ i → edge (dropTo t i g) k j ≡ edge g k j
+  unfolding dropTo
+  drop-edge k j lk lj dk dj = clear-other i (g .edges) k j (in64 s i li) (in64 s k lk) (in64 s j lj) dk dj (g .n) (s .few)
+
+  pub drop-zero : (q : ℕ) → q < g .n → (edge (dropTo t i g) i q ≡ pos 0) × (edge (dropTo t i g) q i ≡ pos 0)
+  unfolding dropTo
+  drop-zero q lq = clear-zero i (g .edges) q (in64 s i li) (in64 s q lq) (s .edges-long) (g .n) (s .few) lq
+
 pub drop-cost : (g : Graph) (x : ℕ → Bool) (t i : ℕ) → Shaped g → i < g .n
     → cost g x ≡ cost (dropTo t i g) x +ℤ when (x i) (deltaOf (g .n) (lin g) (edge g) x i)
 unfolding dropTo
 drop-cost g x t i s l =
-    let few : g .n ≤ 64 = s .few in
-    let inside : i < length (g .linear) = omega (arith, s .linear-long) in
     cost-drop (g .n) x i (lin g) (lin (dropTo t i g)) (edge g) (edge (dropTo t i g)) l
     (record {
-      weight = getD-set-same (g .linear) i (pos 0) (pos 0) inside;
-      weights = λ k d. getD-set-other (g .linear) i k (pos 0) (pos 0) d;
-      across = λ j m. clear-zero i (g .edges) j (omega arith) (omega arith) (s .edges-long) (g .n) few m .0;
-      down = λ k m. clear-zero i (g .edges) k (omega arith) (omega arith) (s .edges-long) (g .n) few m .1;
-      others = λ k j m r p q. clear-other i (g .edges) k j (omega arith) (omega arith) (omega arith) p q (g .n) few;
+      weight = drop-own g s t i l;
+      weights = drop-lin g s t i l;
+      across = λ j m. drop-zero g s t i l j m .0;
+      down = λ k m. drop-zero g s t i l k m .1;
+      others = drop-edge g s t i l;
     })
     (λ k m. s .both k i m l) (s .self i l) (g .constant)

@@ -17,7 +17,7 @@ use Rattle.rules.specs.Eliminate.{absorb, delta}
 use Rattle.whole.specs.Sum.{Σ<}
 use Rattle.whole.specs.Counts.{shift}
 use Rattle.meaning.specs.Cost.{when, when-zero, deltaOf}
-use Rattle.meaning.specs.CostLaws.{cost, Shaped, in64, clear-length, clear-zero, clear-other}
+use Rattle.meaning.specs.CostLaws.{cost, Shaped, clear-length, drop-edge, drop-zero}
 use Rattle.meaning.specs.AbsorbLaws.{none-of, one-of, two-of}
 
 -- the mask of some decisions' values
@@ -95,22 +95,16 @@ shaped-drop t i g s li = record {
   self = λ p lp. own p lp (ℕ-discrete p i);
 }
   where
-    zeros : (q : ℕ) → q < g .n → (edge (dropTo t i g) i q ≡ pos 0) × (edge (dropTo t i g) q i ≡ pos 0)
-    zeros q lq = clear-zero i (g .edges) q (in64 s i li) (in64 s q lq) (s .edges-long) (g .n) (s .few) lq
-
-    stands : (p q : ℕ) → p < g .n → q < g .n → p ≢ i → q ≢ i → edge (dropTo t i g) p q ≡ edge g p q
-    stands p q lp lq np nq = clear-other i (g .edges) p q (in64 s i li) (in64 s p lp) (in64 s q lq) np nq (g .n) (s .few)
-
     go : (p q : ℕ) → p < g .n → q < g .n → Dec (p ≡ i) → Dec (q ≡ i) → edge (dropTo t i g) p q ≡ edge (dropTo t i g) q p
     go p q lp lq (yes e) d =
-        ap (λ (m : ℕ). edge (dropTo t i g) m q) e ∙ zeros q lq .0 ∙ sym (zeros q lq .1) ∙ ap (λ (m : ℕ). edge (dropTo t i g) q m) (sym e)
+        ap (λ (m : ℕ). edge (dropTo t i g) m q) e ∙ drop-zero g s t i li q lq .0 ∙ sym (drop-zero g s t i li q lq .1) ∙ ap (λ (m : ℕ). edge (dropTo t i g) q m) (sym e)
     go p q lp lq (no np) (yes e) =
-        ap (λ (m : ℕ). edge (dropTo t i g) p m) e ∙ zeros p lp .1 ∙ sym (zeros p lp .0) ∙ ap (λ (m : ℕ). edge (dropTo t i g) m p) (sym e)
-    go p q lp lq (no np) (no nq) = stands p q lp lq np nq ∙ s .both p q lp lq ∙ sym (stands q p lq lp nq np)
+        ap (λ (m : ℕ). edge (dropTo t i g) p m) e ∙ drop-zero g s t i li p lp .1 ∙ sym (drop-zero g s t i li p lp .0) ∙ ap (λ (m : ℕ). edge (dropTo t i g) m p) (sym e)
+    go p q lp lq (no np) (no nq) = drop-edge g s t i li p q lp lq np nq ∙ s .both p q lp lq ∙ sym (drop-edge g s t i li q p lq lp nq np)
 
     own : (p : ℕ) → p < g .n → Dec (p ≡ i) → edge (dropTo t i g) p p ≡ pos 0
-    own p lp (yes e) = ap (λ (m : ℕ). edge (dropTo t i g) m p) e ∙ zeros p lp .0
-    own p lp (no np) = stands p p lp lp np np ∙ s .self p lp
+    own p lp (yes e) = ap (λ (m : ℕ). edge (dropTo t i g) m p) e ∙ drop-zero g s t i li p lp .0
+    own p lp (no np) = drop-edge g s t i li p p lp lp np np ∙ s .self p lp
 
 -- at most two decisions, each below n and different
 pub data Pair (n : ℕ) : List ℕ → Type 0 where

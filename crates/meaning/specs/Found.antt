@@ -32,7 +32,7 @@ pub record Taken (g : Graph) (aside b : List ℕ) : Type 0 where
   pub free : mem seed aside ≡ false
   pub size : small b ≡ true
 
-in-actives : (g : Graph) (k : ℕ) → mem k (actives g) ≡ true → (k < g .n) × (active g k ≡ true)
+pub in-actives : (g : Graph) (k : ℕ) → mem k (actives g) ≡ true → (k < g .n) × (active g k ≡ true)
 unfolding actives
 in-actives g k h = let p = in-those (λ i. active g i) k (upto (g .n)) h in (upto-in k (g .n) (p .0), p .1)
 

@@ -14,7 +14,7 @@ use lib.IntN.{ℤ, pos, _+ℤ_}
 use Rattle.whole.specs.Words.{isZeroZ, mem}
 use Rattle.rules.specs.Graph.{Graph, edge, active, neighbours, addConstant, addLinear, addEdge, clear, dropTo}
 use Rattle.rules.specs.SmallBlock.{boundary}
-use Rattle.meaning.specs.CostLaws.{Shaped, in64, clear-zero}
+use Rattle.meaning.specs.CostLaws.{Shaped, in64, drop-zero}
 use Rattle.whole.specs.Pigeon.{Apart, one}
 use Rattle.whole.specs.Tests.{clash, refuse, off-not}
 use Rattle.whole.specs.Members.{apart-below, apart-wider}
@@ -104,9 +104,7 @@ neat-drop t i g s w li = record {
 }
   where
     zeros : (q : ℕ) → q < g .n → (getD (clear i (g .n) (g .edges)) (64 * i + q) (pos 0) ≡ pos 0) × (getD (clear i (g .n) (g .edges)) (64 * q + i) (pos 0) ≡ pos 0)
-    zeros q lq =
-        let few : g .n ≤ 64 = s .few in
-        clear-zero i (g .edges) q (omega (arith, li)) (omega (arith, lq)) (s .edges-long) (g .n) few lq
+    zeros = drop-zero g s t i li
 
 -- an outside neighbour is active
 pub boundary-live : (g : Graph) (b : List ℕ) → Shaped g → Neat g → Apart (g .n) b → (k : ℕ) → mem k (boundary g b) ≡ true → Live g k

@@ -1,6 +1,6 @@
 -- Laws of the run that need nothing of the reductions: each thing due uses one unit, and a run that is cut short has used them all.
 -- Assumes nothing.
-use mathlib.Core.Path.{_≡_, refl, sym, ap, _∙_}
+use mathlib.Core.Path.{_≡_, refl, sym, ap, _∙_, subst}
 use mathlib.Core.Bool.{true, false, cond}
 use mathlib.Core.List.{List, [], _∷_, _++_, append-assoc, append-nil}
 use native.Mathlib.Nat.{not-suc-le-zero, le-of-suc-le-suc}
@@ -54,6 +54,20 @@ run-used (suc b) sw s = more (next sw s) (due-one sw s (s .queue)) (λ t. run-us
     more over o r = (omega arith, λ p. clash {b = true} refl p)
     more (due t) o r = (omega (arith, r t .0), λ p. omega (arith, r t .1 p))
 
+-- ---- what everything due keeps is kept by the run, at every budget
+pub run-keeps : (sw : ℕ) (P : State → Type 0) → ((s t : State) → next sw s ≡ due t → P s → P t) → (b : ℕ) (s : State) → P s → P (run b sw s .state)
+unfolding run
+run-keeps sw P step zero s p = end (next sw s)
+  where
+    end : (x : Next) → P (onward x s (λ t. record { state = s; complete = false }) .state)
+    end over = p
+    end (due t) = p
+run-keeps sw P step (suc b) s p = more (next sw s) refl (run-keeps sw P step b)
+  where
+    more : (x : Next) → next sw s ≡ x → ((t : State) → P t → P (run b sw t .state)) → P (onward x s (λ t. run b sw t) .state)
+    more over e r = p
+    more (due t) e r = r t (step s t e p)
+
 -- ---- more budget, same path
 -- the steps of t begin with those of s
 pub record Begins (s t : List Step) : Type 0 where
@@ -90,17 +104,8 @@ due-longer sw s [] = block-longer sw s (cond (smallBlock sw) (findBlock (s .grap
 due-longer sw s (i ∷ q) = go-steps (way sw (s .graph) i) sw i (takeFront q s)
 
 run-longer : (c sw : ℕ) (s : State) → Begins (s .steps) (run c sw s .state .steps)
-unfolding Longer run
-run-longer zero sw s = end (next sw s)
-  where
-    end : (x : Next) → Begins (s .steps) (onward x s (λ t. record { state = s; complete = false }) .state .steps)
-    end over = begins-refl (s .steps)
-    end (due t) = begins-refl (s .steps)
-run-longer (suc c) sw s = more (next sw s) (due-longer sw s (s .queue)) (λ t. run-longer c sw t)
-  where
-    more : (x : Next) → Longer s x → ((t : State) → Begins (t .steps) (run c sw t .state .steps)) → Begins (s .steps) (onward x s (λ t. run c sw t) .state .steps)
-    more over o r = begins-refl (s .steps)
-    more (due t) o r = begins-trans o (r t)
+unfolding Longer
+run-longer c sw s = run-keeps sw (λ t. Begins (s .steps) (t .steps)) (λ a t e p. begins-trans p (subst (Longer a) e (due-longer sw a (a .queue)))) c s (begins-refl (s .steps))
 
 -- the steps of a smaller budget begin those of a larger one
 pub budget-path : (b c sw : ℕ) (s : State) → b ≤ c → Begins (run b sw s .state .steps) (run c sw s .state .steps)

@@ -8,7 +8,7 @@ use Prim.Native.Nat.{ℕ, zero, suc, _<_}
 use native.Mathlib.Omega.{arith}
 use lib.Dec.{eqb}
 use lib.ListN.{getD, set}
-use lib.Seq.{getD-set-other, getD-set-same}
+use lib.Seq.{getD-set-other}
 use lib.IntN.{ℤ, pos, _+ℤ_, _-ℤ_, negℤ}
 use borrow.Author.Tests.{eqb-true, eqb-false}
 use Rattle.whole.specs.Words.{isZeroZ, mem}
@@ -21,7 +21,7 @@ use Rattle.rules.specs.Eliminate.{absorb, tee, eliminate}
 use Rattle.rules.specs.DegreeThree.{addPairs, absorb3, moebius, eliminate3}
 use Rattle.rules.specs.DominantEdge.{positive, turn, move, contract}
 use Rattle.rules.specs.SmallBlock.{dropAll, boundary, blockTable, eliminateBlock, findBlock, members}
-use Rattle.meaning.specs.CostLaws.{Shaped, in64}
+use Rattle.meaning.specs.CostLaws.{Shaped, in64, drop-own, drop-lin}
 use Rattle.meaning.specs.AbsorbLaws.{shaped-base, shaped-lin, shaped-edge}
 use Rattle.whole.specs.Cmp.{zero-of}
 use Rattle.meaning.specs.EliminateLaws.{shaped-drop, Pair, empty, single, double}
@@ -109,43 +109,48 @@ module _ {n : ℕ} {ss : List ℕ} where
           shaped = shaped-drop t i g (s .fine .shaped) l;
           neat = neat-drop t i g (s .fine .shaped) (s .fine .neat) l;
           light = λ k h. cases (eqb k i)
-              (λ e. ap (λ (m : ℕ). getD (set (g .linear) i (pos 0)) m (pos 0)) (eqb-true k i e) ∙ none-left g (s .fine .shaped) l)
-              (λ e. getD-set-other (g .linear) i k (pos 0) (pos 0) (eqb-false k i e)
+              (λ e. ap (λ (m : ℕ). getD (set (g .linear) i (pos 0)) m (pos 0)) (eqb-true k i e) ∙ drop-own g (s .fine .shaped) t i l)
+              (λ e. drop-lin g (s .fine .shaped) t i l k (eqb-false k i e)
               ∙ s .fine .light k (ap (λ (z : ℕ). eqb z 2) (sym (getD-set-other (g .states) i k t 0 (eqb-false k i e))) ∙ h));
           inside = λ k h. cases (eqb k i)
               (λ e. subst (λ (m : ℕ). m < g .n) (sym (eqb-true k i e)) l)
               (λ e. s .fine .inside k (ap (λ (z : ℕ). eqb z 2) (sym (getD-set-other (g .states) i k t 0 (eqb-false k i e))) ∙ h));
         };
       }
-    where
-      none-left : (g : Graph) → Shaped g → i < g .n → getD (set (g .linear) i (pos 0)) i (pos 0) ≡ pos 0
-      none-left g s l = getD-set-same (g .linear) i (pos 0) (pos 0) (omega (arith, s .linear-long, s .few))
 
   -- ---- what the reductions add
+  -- a walk over active decisions that updates the graph at each
+  walk-stands : (walk : List ℕ → Graph → Graph) (update : ℕ → Graph → Graph) → ((g : Graph) → walk [] g ≡ g) → ((k : ℕ) (ks : List ℕ) (g : Graph) → walk (k ∷ ks) g ≡ walk ks (update k g))
+      → ((k : ℕ) (g : Graph) → Stands n ss g → Alive n ss k → Stands n ss (update k g))
+      → (ks : List ℕ) (g : Graph) → Stands n ss g → ((k : ℕ) → mem k ks ≡ true → Alive n ss k) → Stands n ss (walk ks g)
+  walk-stands walk update ends goes keeps [] g s h = subst (Stands n ss) (sym (ends g)) s
+  walk-stands walk update ends goes keeps (k ∷ ks) g s h =
+      subst (Stands n ss) (sym (goes k ks g)) (walk-stands walk update ends goes keeps ks (update k g) (keeps k g s (h k (in-head k ks))) (λ j m. h j (in-tail j k ks m)))
+
+  -- one that leaves j out
+  but-stands : (j : ℕ) (update : ℕ → Graph → Graph) → ((k : ℕ) (g : Graph) → Stands n ss g → Alive n ss k → j ≢ k → Stands n ss (update k g))
+      → (k : ℕ) (g : Graph) → Stands n ss g → Alive n ss k → Stands n ss (cond (eqb k j) g (update k g))
+  but-stands j update keeps k g s b = go (eqb k j) refl
+    where
+      go : (c : Bool) → eqb k j ≡ c → Stands n ss (cond c g (update k g))
+      go true e = s
+      go false e = keeps k g s b (λ t. eqb-false k j e (sym t))
+
   pub spread-stands : (old : Graph) (i : ℕ) (ks : List ℕ) {g : Graph} → Stands n ss g → ((k : ℕ) → mem k ks ≡ true → Alive n ss k) → Stands n ss (spread old i ks g)
   unfolding spread
-  spread-stands old i [] s h = s
-  spread-stands old i (k ∷ ks) s h = spread-stands old i ks (stands-lin k (edge old i k) s (h k (in-head k ks))) (λ j m. h j (in-tail j k ks m))
+  spread-stands old i ks {g} s h = walk-stands (spread old i) (λ k. addLinear k (edge old i k)) (λ u. refl) (λ k ks u. refl) (λ k u t b. stands-lin k (edge old i k) t b) ks g s h
 
   pub move-stands : (old : Graph) (i j : ℕ) (ks : List ℕ) {g : Graph} → Stands n ss g → Alive n ss j → ((k : ℕ) → mem k ks ≡ true → Alive n ss k) → Stands n ss (move old i j ks g)
   unfolding move
-  move-stands old i j [] s a h = s
-  move-stands old i j (k ∷ ks) {g} s a h = move-stands old i j ks (go (eqb k j) refl) a (λ l m. h l (in-tail l k ks m))
-    where
-      go : (c : Bool) → eqb k j ≡ c → Stands n ss (cond c g (addEdge j k (edge old i k) g))
-      go true e = s
-      go false e = stands-edge j k (edge old i k) s a (h k (in-head k ks)) (λ t. eqb-false k j e (sym t))
+  move-stands old i j ks {g} s a h =
+      walk-stands (move old i j) (λ k u. cond (eqb k j) u (addEdge j k (edge old i k) u)) (λ u. refl) (λ k ks u. refl)
+      (but-stands j (λ k. addEdge j k (edge old i k)) (λ k u t b d. stands-edge j k (edge old i k) t a b d)) ks g s h
 
   pub turn-stands : (old : Graph) (i j : ℕ) (ks : List ℕ) {g : Graph} → Stands n ss g → Alive n ss j → ((k : ℕ) → mem k ks ≡ true → Alive n ss k) → Stands n ss (turn old i j ks g)
   unfolding turn
-  turn-stands old i j [] s a h = s
-  turn-stands old i j (k ∷ ks) {g} s a h = turn-stands old i j ks (go (eqb k j) refl) a (λ l m. h l (in-tail l k ks m))
-    where
-      go : (c : Bool) → eqb k j ≡ c → Stands n ss (cond c g (addEdge j k (negℤ (edge old i k)) (addLinear k (edge old i k) g)))
-      go true e = s
-      go false e =
-          let b = h k (in-head k ks) in
-          stands-edge j k (negℤ (edge old i k)) (stands-lin k (edge old i k) s b) a b (λ t. eqb-false k j e (sym t))
+  turn-stands old i j ks {g} s a h =
+      walk-stands (turn old i j) (λ k u. cond (eqb k j) u (addEdge j k (negℤ (edge old i k)) (addLinear k (edge old i k) u))) (λ u. refl) (λ k ks u. refl)
+      (but-stands j (λ k u. addEdge j k (negℤ (edge old i k)) (addLinear k (edge old i k) u)) (λ k u t b d. stands-edge j k (negℤ (edge old i k)) (stands-lin k (edge old i k) t b) a b d)) ks g s h
 
   pub absorb-stands : (t : ℕ → ℤ) {js : List ℕ} {g : Graph} → Stands n ss g → Pair n js → ((k : ℕ) → mem k js ≡ true → Alive n ss k) → Stands n ss (absorb t js g)
   unfolding absorb
@@ -175,13 +180,17 @@ unfolding marked dropAll
 drop-all-stands s none = s
 drop-all-stands s (one {x = i} l m a) = drop-all-stands (stands-drop 3 i s l) a
 
+-- those that have not left keep theirs
+pub marked-other : (b ss : List ℕ) (i : ℕ) → mem i b ≡ false → getD (marked b ss) i 0 ≡ getD ss i 0
+unfolding marked
+marked-other [] ss i h = refl
+marked-other (j ∷ b) ss i h = let p = out-cons i j b h in marked-other b (set ss j 3) i (p .1) ∙ getD-set-other ss j i 3 0 (p .0)
+
 pub alive-other : {n : ℕ} (ss : List ℕ) (t i k : ℕ) → Alive n ss k → k ≢ i → Alive n (set ss i t) k
 alive-other ss t i k a d = (a .0, ap (λ (z : ℕ). eqb z 2) (getD-set-other ss i k t 0 d) ∙ a .1)
 
 pub alive-marked : {n : ℕ} (b ss : List ℕ) (k : ℕ) → Alive n ss k → mem k b ≡ false → Alive n (marked b ss) k
-unfolding marked
-alive-marked [] ss k a m = a
-alive-marked (i ∷ is) ss k a m = let p = out-cons k i is m in alive-marked is (set ss i 3) k (alive-other ss 3 i k a (p .0)) (p .1)
+alive-marked b ss k a m = (a .0, ap (λ (z : ℕ). eqb z 2) (marked-other b ss k m) ∙ a .1)
 
 -- ---- the reductions
 module _ (g : Graph) (f : Fine g) where

@@ -1,27 +1,15 @@
--- The refusals' table: the first row that holds.
+-- What reading and writing give, from their number.
 -- Assumes nothing.
-use mathlib.Core.Path.{_≡_, refl, ap, _∙_}
+use mathlib.Core.Path.{_≡_, ap, _∙_}
 use mathlib.Core.Bool.{Bool, true, false, not, _&&_}
-use mathlib.Core.List.{List, [], _∷_}
+use mathlib.Core.List.{List}
 use Prim.Native.Nat.{ℕ, suc}
 use lib.ListN.{length}
-use Rattle.rules.specs.Refuse.{firstRow, readRefusal, writeRefusal}
+use Rattle.rules.specs.Refuse.{readRefusal, writeRefusal}
 use Rattle.rules.specs.Record.{recordIn, noRecord, blockOf}
 use Rattle.rules.specs.Call.{unless, reading, blockAfter}
 use Rattle.rules.specs.declared.Record.{Record}
 use Rattle.rules.specs.declared.Reading.{Reading}
-
-pub row-hit : (k : ℕ) (t : Bool) (rs : List (ℕ × Bool)) → t ≡ true → k ≡ firstRow ((k, t) ∷ rs)
-unfolding firstRow
-row-hit k t rs e = rw e
-
-pub row-skip : (k : ℕ) (t : Bool) (rs : List (ℕ × Bool)) {r : ℕ} → t ≡ false → r ≡ firstRow rs → r ≡ firstRow ((k, t) ∷ rs)
-unfolding firstRow
-row-skip k t rs e h = rw e h
-
-pub row-none : 0 ≡ firstRow []
-unfolding firstRow
-row-none = refl
 
 -- a body is broken by a byte that no field holds, or by the record
 pub zeros-wrong : (z s : Bool) → z ≡ false → not (z && s) ≡ true

@@ -7,10 +7,10 @@ use native.Mathlib.Omega.{arith}
 use native.Mathlib.Nat.{zero-add}
 use native.Mathlib.Numerals.{add-one}
 use lib.ListN.{length, getD, take, drop, set, drop-of-length-le}
-use lib.Seq.{sets, sets-eq, drop-cons, take-at}
+use lib.Seq.{sets, sets-eq, drop-cons}
 use Rattle.whole.specs.Words.{from}
 use Rattle.whole.specs.Those.{from-last}
-use Rattle.whole.specs.Stores.{sets-append, front-more}
+use Rattle.whole.specs.Stores.{sets-append, front-more, sets-front}
 use Rattle.whole.specs.Counts.{next-place}
 use Rattle.rules.specs.Record.{noStep, stepBytes, stepsBytes}
 use Rattle.rules.specs.declared.Step.{Step}
@@ -28,7 +28,7 @@ module _ {A : Type 0} where
       ∙ append-nil (take i l ++ vs)
 
   pub take-sets : (vs l : List A) (n : ℕ) → length vs ≡ n → n ≤ length l → take n (sets l 0 vs) ≡ vs
-  take-sets vs l n e h = rw (sets-eq vs l 0 (omega arith)) (take-at vs _ n e)
+  take-sets vs l n e h = ap (λ (k : ℕ). take k (sets l 0 vs)) (sym e ∙ sym (zero-add (length vs))) ∙ sets-front vs l 0 (omega (arith, zero-add (length vs)))
 
   -- one store of a loop that stores the elements of a list
   pub store-next : (l : List A) (i k : ℕ) (vs : List A) (d : A) → k < length vs → sets l (i + k) (drop k vs) ≡ sets (set l (i + k) (getD vs k d)) (i + (k + 1)) (drop (k + 1) vs)

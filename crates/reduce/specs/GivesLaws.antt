@@ -17,10 +17,10 @@ use Rattle.rules.specs.Refuse.{reduceRefusal}
 use Rattle.rules.specs.Call.{unless, refused, reported, reduction, linearAfter, edgesAfter}
 use Rattle.rules.specs.declared.Reduction.{Reduction}
 use Rattle.accepted.specs.Accept.{Fit}
-use Rattle.sound_run.specs.SoundStart.{start-stands}
+use Rattle.sound_run.specs.SoundStart.{ended-n}
 use Rattle.run_laws.specs.RunEnds.{ended-few}
 use Rattle.run_laws.specs.InOrder.{Room}
-use Rattle.run_laws.specs.InOrderLaws.{ended-in-order, ended-room}
+use Rattle.run_laws.specs.InOrderLaws.{ended-room}
 use Rattle.outputs.specs.Out.{rest, activeOf, Places, linearAt, edgeAt}
 use Rattle.outputs.specs.declared.Remaining.{Remaining}
 use Rattle.outputs.proofs.Laws.{linear-of, edges-of}
@@ -40,10 +40,6 @@ module _ (o : Objective) (fit : Fit o) (r : Ended) (w : Lent) (k : Ends (rule.en
 
   room : Room (rule.ended o .state)
   room = ended-room o fit
-
-  -- the graph at the end has the objective's n
-  same-n : rule.ended o .state .graph .n ≡ o .n
-  same-n = ended-in-order o fit .sound .stands .size ∙ start-stands o fit .size
 
   pub end-few : r .state .frame .n ≤ 64
   end-few = omega (arith, ap (λ (g : Graph). g .n) (k .state .graph), room .n)
@@ -68,7 +64,7 @@ module _ (o : Objective) (fit : Fit o) (r : Ended) (w : Lent) (k : Ends (rule.en
     reports : reportFrom r (m .len) ≡ reported (o .n) (outcome o)
     unfolding outcome outcomeOf
     reports =
-        let n : r .state .frame .n ≡ o .n = ap (λ (g : Graph). g .n) (k .state .graph) ∙ same-n in
+        let n : r .state .frame .n ≡ o .n = ap (λ (g : Graph). g .n) (k .state .graph) ∙ ended-n o fit in
         let c = ap (λ (g : Graph). g .constant) (k .state .graph) in
         let ss = ap (λ (g : Graph). g .states) (k .state .graph) in
         let t : (f : rule.Tally → ℕ) → f (tallyOf (r .state .tally)) ≡ f (rule.ended o .state .counted) = λ f. ap f (k .state .counted) in

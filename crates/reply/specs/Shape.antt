@@ -7,16 +7,16 @@ use Rattle.rules.specs.Run.{ended}
 use Rattle.rules.specs.Outcome.{outcomeOf, outcome}
 use Rattle.rules.specs.Refuse.{reduceRefusal}
 use Rattle.accepted.specs.Accept.{Fit, accept}
-use Rattle.sound_run.specs.SoundStart.{statesFrom}
+use Rattle.sound_run.specs.SoundStart.{statesFrom, ended-n}
 use Rattle.run_laws.specs.InOrderLaws.{ended-room}
-use Rattle.demand_three.specs.RunEnds.{endSteps, end-n, end-fine, end-taken}
+use Rattle.demand_three.specs.RunEnds.{endSteps, end-fine, end-taken}
 use Rattle.run_record.specs.RunRecord.{steps-narrow}
 use Rattle.write_text.specs.HeldLaws.{Reported, outcome-reported}
 
 of-fit : (o : Objective) → Fit o → Reported (o .n) (outcome o)
 unfolding outcome
 of-fit o fit =
-    subst (λ (n : ℕ). Reported n (outcomeOf (ended o))) (end-n o fit) (outcome-reported (ended o) (ended-room o fit .n) (end-fine o fit .shaped .states-long) (ended-room o fit .steps)
+    subst (λ (n : ℕ). Reported n (outcomeOf (ended o))) (ended-n o fit) (outcome-reported (ended o) (ended-room o fit .n) (end-fine o fit .shaped .states-long) (ended-room o fit .steps)
     (steps-narrow (o .n) (statesFrom (o .n) (o .fixings)) (endSteps o) (end-taken o fit)))
 
 pub reported : (o : Objective) → reduceRefusal o 64 4096 ≡ 0 → Reported (o .n) (outcome o)

@@ -62,20 +62,6 @@ run-one sw s t e = ap (λ (r : Ended). r .state) (run-due 0 sw s t e) ∙ stays 
     stays over = refl
     stays (due u) = refl
 
--- what everything due keeps is kept by the run, at every budget
-pub run-keeps : (sw : ℕ) (P : State → Type 0) → ((s t : State) → next sw s ≡ due t → P s → P t) → (b : ℕ) (s : State) → P s → P (run b sw s .state)
-unfolding run
-run-keeps sw P step zero s p = end (next sw s)
-  where
-    end : (x : Next) → P (onward x s (λ t. record { state = s; complete = false }) .state)
-    end over = p
-    end (due t) = p
-run-keeps sw P step (suc b) s p = more (next sw s) refl (run-keeps sw P step b)
-  where
-    more : (x : Next) → next sw s ≡ x → ((t : State) → P t → P (run b sw t .state)) → P (onward x s (λ t. run b sw t) .state)
-    more over e r = p
-    more (due t) e r = r t (step s t e p)
-
 -- "The run is cut short exactly when a take or a found block is due and no unit is left."
 -- complete says exactly whether nothing is due where the run ends
 abbrev pub nothingDue : Next → Bool

@@ -26,10 +26,11 @@ use Rattle.sound_run.specs.Sound.{Sound}
 use Rattle.sound_run.specs.SoundRun.{run-sound, begin-sound}
 use Rattle.sound_run.specs.SoundStart.{start-stands}
 use Rattle.size_rule.specs.RunWithin.{reduced-within}
-use Rattle.run_laws.specs.DueLaws.{Due, take, block, next-due, run-one, run-keeps}
+use Rattle.run_laws.specs.DueLaws.{Due, take, block, next-due, run-one}
 use Rattle.run_laws.specs.QueueLaws.{waiting-apart, join-apart}
 use Rattle.run_laws.specs.StepLaws.{steps-few, block-steps-length}
 use Rattle.run_laws.specs.InOrder.{Counted, InOrder, Room}
+use Rattle.meaning.specs.RunLaws.{run-keeps}
 
 -- ---- the counts
 one-more : (steps : List Step) (s : Step) → length (steps ++ s ∷ []) ≡ length steps + 1

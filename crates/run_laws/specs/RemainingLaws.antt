@@ -6,20 +6,17 @@ use mathlib.Core.List.{List, [], _∷_, _++_}
 use Prim.Native.Nat.{ℕ, _+_, _≤_}
 use native.Mathlib.Omega.{arith}
 use lib.ListN.{length, set, length-append, length-map}
-use Rattle.whole.specs.Words.{mem, upto, those}
+use Rattle.whole.specs.Words.{mem, upto}
 use Rattle.whole.specs.Pigeon.{Apart}
 use Rattle.whole.specs.Tests.{cases, clash, refuse}
-use Rattle.whole.specs.Members.{in-those, to-those, in-upto, upto-in, in-append, in-left, in-right, out-of-cons, apart-join, few}
+use Rattle.whole.specs.Members.{to-those, in-upto, in-append, in-left, in-right, out-of-cons, apart-join, few}
 use Rattle.rules.specs.Graph.{Graph, active, actives}
 use Rattle.rules.specs.Eliminate.{Step}
+use Rattle.meaning.specs.Found.{in-actives}
 use Rattle.meaning.specs.Stands.{Alive, marked, alive-marked}
 use Rattle.sound_run.specs.Sound.{decisions, Sound}
 use Rattle.run_laws.specs.QueueLaws.{actives-apart}
 use Rattle.run_laws.specs.StepLaws.{still-alive, steps-alive, steps-apart}
-
-pub in-actives : (g : Graph) (k : ℕ) → mem k (actives g) ≡ true → Alive (g .n) (g .states) k
-unfolding actives
-in-actives g k h = let p = in-those (λ i. active g i) k (upto (g .n)) h in (upto-in k (g .n) (p .0), p .1)
 
 pub to-actives : (g : Graph) (k : ℕ) → Alive (g .n) (g .states) k → mem k (actives g) ≡ true
 unfolding actives

@@ -18,6 +18,7 @@ use Rattle.rules.specs.Eliminate.{Step}
 use Rattle.rules.specs.SmallBlock.{blockSteps}
 use Rattle.meaning.specs.Stands.{Alive}
 use Rattle.sound_run.specs.Sound.{Steps, decisions}
+use Rattle.sound_run.specs.SoundReductions.{block-decisions}
 
 -- what has been eliminated is not active
 gone-state : (ss : List ℕ) (i : ℕ) → eqb (getD (set ss i 3) i 0) 2 ≡ false
@@ -53,6 +54,4 @@ steps-few n ss steps t = rw (length-map steps (λ s. s .decision)) at (pigeon n 
 
 -- "one step per member"
 pub block-steps-length : (g : Graph) (b : List ℕ) (k : ℕ) (is : List ℕ) → length (blockSteps g b k is) ≡ length is
-unfolding blockSteps
-block-steps-length g b k [] = refl
-block-steps-length g b k (i ∷ is) = ap suc (block-steps-length g b (suc k) is)
+block-steps-length g b k is = sym (length-map (blockSteps g b k is) (λ s. s .decision)) ∙ ap length (block-decisions g b k is)

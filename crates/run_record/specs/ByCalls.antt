@@ -1,7 +1,7 @@
 -- Demand 3 through the calls: the record of a reduction is not refused, and grows back and projects as the run's own states and steps do.
 -- Assumes nothing.
 use mathlib.Core.Path.{_≡_, refl, sym, ap, ap₂, _∙_, subst}
-use mathlib.Core.Bool.{Bool, true, false, cond, not}
+use mathlib.Core.Bool.{Bool, true, false, not}
 use mathlib.Core.List.{List, [], _∷_}
 use Prim.Native.Nat.{ℕ, suc, _-_, _<_, _≤_}
 use native.Mathlib.Omega.{arith}
@@ -31,6 +31,7 @@ use Rattle.demand_three.specs.RunEnds.{endGraph, endSteps, end-states, end-take
 use Rattle.demand_three.specs.Theorems.{first-half, second-half}
 use Rattle.roundtrip.specs.Steps.{steps-of-record}
 use Rattle.run_record.specs.RunRecord.{steps-narrow, record-sound}
+use Rattle.accepted.specs.Rows.{row-skip, row-none}
 
 -- ---- the run's record
 module _ (o : Objective) (fit : Fit o) where
@@ -56,12 +57,10 @@ module _ (o : Objective) (fit : Fit o) where
 
 -- ---- rows that do not hold
 pub no-row : {t : Bool} (k : ℕ) (rows : List (ℕ × Bool)) → t ≡ false → firstRow ((k, t) ∷ rows) ≡ firstRow rows
-unfolding firstRow
-no-row k rows h = ap (λ (b : Bool). cond b k (firstRow rows)) h
+no-row {t} k rows h = sym (row-skip k t rows h refl)
 
 pub none-left : firstRow [] ≡ 0
-unfolding firstRow
-none-left = refl
+none-left = sym row-none
 
 no-test : {s t : Bool} → s ≡ false → t ≡ false → oneOf (s ∷ t ∷ []) ≡ false
 unfolding oneOf

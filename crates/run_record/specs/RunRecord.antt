@@ -20,12 +20,11 @@ use Rattle.rules.specs.Eliminate as rule
 use Rattle.rules.specs.Record.{noStep, hold, holdAll, recordOf, nearOf, isNone, stateAt, stepAt, decided, ascending, nearFine, choiceLimit, stepFine, stepped, sound}
 use Rattle.rules.specs.declared.Step.{Step}
 use Rattle.rules.specs.declared.Record.{Record}
-use Rattle.meaning.specs.Stands.{marked}
+use Rattle.meaning.specs.Stands.{marked, marked-other}
 use Rattle.sound_run.specs.Sound.{Taken, Steps, decisions, decisions-append, marked-append}
 use Rattle.run_laws.specs.StepLaws.{steps-alive, steps-few}
 use Rattle.run_laws.specs.RemainingLaws.{marked-alive}
 use Rattle.roundtrip.specs.Steps.{Few, played-hold}
-use Rattle.demand_three.specs.RunEnds.{marked-other}
 use Rattle.run_record.specs.HeldSteps.{held-unused, held-choices, step-held, decided-held}
 
 -- ---- every one of a range passes

@@ -6,15 +6,14 @@ use mathlib.Core.List.{List, [], _∷_}
 use Prim.Native.Nat.{ℕ, _+_, _-_, _^_, _<_, _≤_}
 use lib.ListN.{length}
 use lib.Signed.{_≤ℤ_, _<ℤ_}
-use Rattle.whole.specs.Words.{upto, mem}
-use Rattle.whole.specs.Members.{in-those, upto-in}
-use Rattle.rules.specs.Graph.{Graph, active, actives, neighbours}
+use Rattle.whole.specs.Words.{mem}
+use Rattle.rules.specs.Graph.{Graph, actives, neighbours}
 use Rattle.rules.specs.SmallBlock.{grow, component, isCut, small, findBlock, none, members, boundary, inner, bestMask}
 use Rattle.meaning.specs.CostLaws.{Shaped}
 use Rattle.meaning.specs.Growth.{Network, free, network}
 use Rattle.meaning.specs.Turns.{component-turns}
 use Rattle.meaning.specs.BlockCost.{cheapest-least, cheapest-lowest}
-use Rattle.meaning.specs.Found.{Removed, nothing, single, FoundBy, found-by, SmallBlock, found-block}
+use Rattle.meaning.specs.Found.{in-actives, Removed, nothing, single, FoundBy, found-by, SmallBlock, found-block}
 use Rattle.search_meaning.specs.Paths.{PathFrom, Parts}
 use Rattle.search_meaning.specs.PathLaws.{reached-path, path-reached}
 use Rattle.search_meaning.specs.CutLaws.{cut-parts, parts-cut}
@@ -38,8 +37,7 @@ module _ (n : ℕ) (near : ℕ → List ℕ) (net : Network n near) where
   cut-is removed c lc = (cut-parts n near net removed c lc, parts-cut n near net removed c lc)
 
 active-below : (g : Graph) (k : ℕ) → mem k (actives g) ≡ true → k < g .n
-unfolding actives
-active-below g k h = upto-in k (g .n) (in-those (active g) k (upto (g .n)) h .0)
+active-below g k h = in-actives g k h .0
 
 module _ (g : Graph) (b : List ℕ) (s : Shaped g) (e : findBlock g ≡ members b) where
   abbrev pub by : FoundBy g b

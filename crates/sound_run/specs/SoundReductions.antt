@@ -13,7 +13,7 @@ use Rattle.whole.specs.Words.{isZeroZ, mem, some, all, bit, oneIf}
 use Rattle.whole.specs.Pigeon.{Apart, none, one}
 use Rattle.whole.specs.Members.{in-head, in-single, in-tail, out-cons, differ, apart-below}
 use Rattle.rules.specs.Graph.{Graph, edge, neighbours, degree}
-use Rattle.rules.specs.Eliminate.{Step, step, chooses, stepOf, eliminate}
+use Rattle.rules.specs.Eliminate.{Step, chooses, stepOf, eliminate}
 use Rattle.rules.specs.DegreeThree.{cubic, eliminate3}
 use Rattle.rules.specs.DominantEdge.{positive, dominates, contract, contractStep}
 use Rattle.rules.specs.SmallBlock.{boundary, bestMask, blockSteps, eliminateBlock, findBlock, members}
@@ -114,7 +114,7 @@ module _ (g : Graph) (f : Fine g) (i : ℕ) (a : Alive (g .n) (g .states) i) whe
         (contract-never-more g i j (f .shaped) (a .0) m h)
 
 -- ---- a block
-block-decisions : (g : Graph) (b : List ℕ) (p : ℕ) (is : List ℕ) → decisions (blockSteps g b p is) ≡ is
+pub block-decisions : (g : Graph) (b : List ℕ) (p : ℕ) (is : List ℕ) → decisions (blockSteps g b p is) ≡ is
 unfolding blockSteps
 block-decisions g b p [] = refl
 block-decisions g b p (i ∷ is) = ap (λ (l : List ℕ). i ∷ l) (block-decisions g b (suc p) is)

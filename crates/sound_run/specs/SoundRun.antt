@@ -1,9 +1,9 @@
 -- Every run is sound, at every budget and switch set: by one induction on the budget.
 -- Assumes nothing.
-use mathlib.Core.Path.{_≡_, refl}
+use mathlib.Core.Path.{_≡_, refl, subst}
 use mathlib.Core.Bool.{Bool, true, false, cond, not, _&&_}
 use mathlib.Core.List.{List, [], _∷_}
-use Prim.Native.Nat.{ℕ, zero, suc, _≤_}
+use Prim.Native.Nat.{ℕ, _≤_}
 use lib.Dec.{leb, eqb}
 use borrow.Author.Tests.{leb-true, eqb-true}
 use Rattle.whole.specs.Words.{mem}
@@ -14,10 +14,11 @@ use Rattle.rules.specs.Graph.{Graph, active, neighbours, degree}
 use Rattle.rules.specs.DegreeThree.{cubic}
 use Rattle.rules.specs.DominantEdge.{Found, nothing, at, first, dominant, dominates}
 use Rattle.rules.specs.SmallBlock.{Block, none, members, findBlock}
-use Rattle.rules.specs.Run.{State, Way, inactive, low, into, three, failed, idle, orThree, way, reduced, skipped, go, takeFront, blocked, Next, over, due, dueBlock, dueAt, next, onward, run, begin}
+use Rattle.rules.specs.Run.{State, Way, inactive, low, into, three, failed, idle, orThree, way, reduced, skipped, go, takeFront, blocked, Next, over, due, dueBlock, dueAt, run, begin}
 use Rattle.meaning.specs.Stands.{Fine}
 use Rattle.sound_run.specs.Sound.{Sound, sound-none, sound-then}
 use Rattle.sound_run.specs.SoundReductions.{eliminate-sound, three-sound, contract-sound, block-sound}
+use Rattle.meaning.specs.RunLaws.{run-keeps}
 
 -- ---- what a take finds out before it reduces
 abbrev Due : Graph → ℕ → Way → Type 0
@@ -107,17 +108,8 @@ module _ (g₀ : Graph) where
 
   -- "Soundness of the run at EVERY budget and switch set"
   pub run-sound : (budget sw : ℕ) (s : State) → Reached s → Reached (run budget sw s .state)
-  unfolding After run
-  run-sound zero sw s r = end (next sw s)
-    where
-      end : (x : Next) → Reached (onward x s (λ t. record { state = s; complete = false }) .state)
-      end over = r
-      end (due t) = r
-  run-sound (suc b) sw s r = more (next sw s) (due-after sw s (s .queue) r) (λ t. run-sound b sw t)
-    where
-      more : (x : Next) → After x → ((t : State) → Reached t → Reached (run b sw t .state)) → Reached (onward x s (λ t. run b sw t) .state)
-      more over a h = r
-      more (due t) a h = h t a
+  unfolding After
+  run-sound b sw s r = run-keeps sw Reached (λ a t e q. subst After e (due-after sw a (a .queue) q)) b s r
 
   pub begin-sound : (sw : ℕ) → Fine g₀ → Reached (begin sw g₀)
   unfolding begin

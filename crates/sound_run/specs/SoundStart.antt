@@ -119,3 +119,6 @@ module _ (o : Objective) (fit : Fit o) where
   pub ended-sound : Sound (start o) (ended o .state .steps) (ended o .state .graph)
   unfolding ended
   ended-sound = run-sound (start o) (o .budget) (o .switches) _ (begin-sound (start o) (o .switches) (start-stands .fine))
+
+  pub ended-n : ended o .state .graph .n ≡ o .n
+  ended-n = ended-sound .stands .size ∙ start-stands .size
