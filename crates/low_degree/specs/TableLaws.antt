@@ -9,7 +9,10 @@ use lib.ListN.{length, getD, length-map}
 use lib.Pow.{pow-mono}
 use lib.IntN.{ℤ, pos, _+ℤ_}
 use lib.Signed.{ltZ}
+use mir.Syntax.{w64}
+use mir.Val.{toZ, ofZ}
 use Rattle.whole.specs.Parts.{∣_∣}
+use Rattle.whole.specs.Fits.{read}
 use Rattle.whole.specs.Tests.{either-way}
 use Rattle.whole.specs.Words.{tab, odd, chosen, bitsFrom, oneIf, below0}
 use Rattle.whole.specs.Lists.{tab-at, tab-same}
@@ -22,7 +25,8 @@ use Rattle.graph.specs.NearLaws.{near-count, near-list, near-weights}
 use Rattle.accepted.specs.Small.{Small}
 use Rattle.graph.specs.Small.{small-near}
 use Rattle.graph.specs.declared.Near.{Near}
-use Rattle.low_degree.specs.Table.{deltasOf, teesOf, choicesOf, stepFrom}
+use Rattle.low_degree.specs.declared.Table.{Table}
+use Rattle.low_degree.specs.Table.{deltasOf, teesOf, choicesOf, stepFrom, Tables}
 
 -- ---- over the degree: a missing neighbour's weight is 0
 chosen-three : (ws : List ℤ) (m : ℕ) → length ws ≤ 3 → chosen (three ws (pos 0)) m ≡ chosen ws m
@@ -69,6 +73,13 @@ module _ (g : Graph) (i : ℕ) (near : Near) (is : near ≡ nearOf g i) (few : n
       let p : 2 ^ length (neighbours g i) ≤ 8 = pow-mono {j = 3} degree-few in
       rw (n, near-list g i near is 0 (omega arith), near-list g i near is 1 (omega arith), near-list g i near is 2 (omega arith), choices-table (2 ^ length (neighbours g i)) p)
 
-  -- what making the table asks
-  pub table-asks : Within g → (∣ lin g i ∣ ≤ 1099511627776) × Small 2199023255552 (near .weights) × (near .count ≤ 3)
-  table-asks w = (w .linear i, subst (λ (x : Near). Small 2199023255552 (x .weights)) (sym is) (small-near g i (record { each = w .edges })), few)
+  -- the code's own copy of the weight, what making the table asks of it, and what it gives
+  module _ (w : Within g) where
+    weight : toZ w64 (ofZ w64 (lin g i)) ≡ lin g i
+    weight = read (lin g i) (omega (arith, w .linear i))
+
+    pub table-asks : (∣ toZ w64 (ofZ w64 (lin g i)) ∣ ≤ 1099511627776) × Small 2199023255552 (near .weights) × (near .count ≤ 3)
+    table-asks = rw weight (w .linear i, subst (λ (x : Near). Small 2199023255552 (x .weights)) (sym is) (small-near g i (record { each = w .edges })), few)
+
+    pub table-gives : (r : Table) → Tables r (toZ w64 (ofZ w64 (lin g i))) near → (r .deltas ≡ tab (delta g i) 8) × (r .tees ≡ tab (tee g i) 8)
+    table-gives r h = h g i weight is

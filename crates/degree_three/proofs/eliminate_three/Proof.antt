@@ -1,7 +1,6 @@
 use Rattle.degree_three.proofs.Absorbing.{moebius-table, near-triple, eliminated}
-use Rattle.whole.specs.Fits.{read}
 use Rattle.low_degree.specs.Table.{stepFrom}
-use Rattle.low_degree.specs.TableLaws.{degree-few, table-asks, step-table}
+use Rattle.low_degree.specs.TableLaws.{degree-few, table-asks, table-gives, step-table}
 use Rattle.whole.specs.Cmp.{zero-is, zero-not}
 use Rattle.graph.specs.Held.{held}
 use Rattle.graph.specs.NearLaws.{near-inside}
@@ -16,8 +15,6 @@ use Rattle.whole.specs.Words.{tab, isZeroZ}
 use Rattle.whole.specs.Lists.{tab-at}
 use lib.IntN.{ℤ, pos}
 use lib.ListN.{getD}
-use mir.Syntax.{w64}
-use mir.Val.{toZ, ofZ}
 use denote.Ref.{now}
 use mathlib.Core.Bool.{Bool, true, false, cond, not}
 use mathlib.Core.List.{List}
@@ -32,20 +29,15 @@ use Rattle.degree_three.proofs.eliminate_three.Tie as tie
 abbrev before : tie.Start → Graph
 before s = held (s .args .f) (now (s .args .lin)) (now (s .args .edges))
 
-weight : (s : tie.Start) → toZ w64 (ofZ w64 (getD (now (s .args .lin)) (s .args .i) (pos 0))) ≡ getD (now (s .args .lin)) (s .args .i) (pos 0)
-weight s = read (getD (now (s .args .lin)) (s .args .i) (pos 0)) (omega (arith, s .pre .2 .linear (s .args .i)))
-
 few : (s : tie.Start) → s .args .near .count ≤ 3
 few s = omega (arith, s .pre .4)
 
 table-of-requires : tie.Need-table-of-requires
-table-of-requires c κs =
-    let s = c .before in
-    rw (weight s) (table-asks (before s) (s .args .i) (s .args .near) (s .pre .3) (few s) (s .pre .2))
+table-of-requires c κs = let s = c .before in table-asks (before s) (s .args .i) (s .args .near) (s .pre .3) (few s) (s .pre .2)
 
 -- the rules' own table
 table : (c : tie.After-table-of) → (c .table-of .result .deltas ≡ tab (delta (before (c .before .before)) (c .before .before .args .i)) 8) × (c .table-of .result .tees ≡ tab (tee (before (c .before .before)) (c .before .before .args .i)) 8)
-table c = let s = c .before .before in c .table-of .ensures (before s) (s .args .i) (weight s) (s .pre .3)
+table c = let s = c .before .before in table-gives (before s) (s .args .i) (s .args .near) (s .pre .3) (few s) (s .pre .2) (c .table-of .result) (c .table-of .ensures)
 
 three : (s : tie.Start) → degree (before s) (s .args .i) ≤ 3
 three s = degree-few (before s) (s .args .i) (s .args .near) (s .pre .3) (few s)
