@@ -18,7 +18,7 @@ use Rattle.block_elimination.specs.Block.{Eliminable}
 use Rattle.graph.specs.Shows.{Shows}
 use Rattle.steps.specs.Kept.{Kept}
 use Rattle.steps.specs.declared.Steps.{Steps}
-use Rattle.state.specs.Holds.{Counted, Lent, graphIn, Holds}
+use Rattle.state.specs.Holds.{OfAll, Lent, graphIn, Holds}
 use Rattle.state.specs.declared.State.{State}
 use Rattle.block_turn.specs.declared.Gone.{Gone}
 
@@ -39,7 +39,7 @@ pub record Takeable (s : State) (w : Lent) (before : Steps) (order : List ℕ) (
   pub ring : length (w .ring) ≡ 64
   pub eight : count ≤ 8
   pub room : before .count + count ≤ 64
-  pub counted : Counted (s .tally)
+  pub counted : OfAll (s .tally)
   pub blocks : s .blocks < 4294967295
 
 abbrev pub Blocks : State → Lent → Steps → List ℕ → ℕ → Gone → Lent → Type 0

@@ -140,7 +140,7 @@ runOf o b = run b (o .switches) (begin (o .switches) (start o)) .state
 abbrev pub SizeRule : Objective → Type 0
 SizeRule o = (b : ℕ) → Within (runOf o b .graph)
 
--- and each sum that a reduction makes on the way, in a graph within it. 2^40 is 1,099,511,627,776
+-- and each sum that a reduction makes on the way, in a graph of at most 64 decisions within it. 2^40 is 1,099,511,627,776
 pub record Sums (g : Graph) : Type 0 where
   -- 7·2^40 for a delta and for "T the smaller of delta and 0", 56·2^40 for an entry of the Möbius transform
   pub deltas : (i m : ℕ) → degree g i ≤ 3 → ∣ delta g i m ∣ ≤ 7696581394432
@@ -175,7 +175,7 @@ pub record Built (o : Objective) : Type 0 where
   pub whole : (x : ℕ → Bool) → cost (graphOf o) x ≡ costOfObjective o x
   pub fixed : (x : ℕ → Bool) → cost (start o) x ≡ costOfObjective o (withFixings (o .fixings) x)
 
--- one law for each atomic update
+-- one law for each atomic update, in a graph of at most 64 decisions whose edges are the same both ways round, none with itself
 pub record Updates (g : Graph) : Type 0 where
   pub constant : (x : ℕ → Bool) (v : ℤ) → cost (addConstant v g) x ≡ cost g x +ℤ v
   pub linear : (x : ℕ → Bool) (k : ℕ) (v : ℤ) → k < g .n → cost (addLinear k v g) x ≡ cost g x +ℤ when (x k) v
@@ -188,7 +188,7 @@ pub record Reduction-of (g g′ : Graph) (grown : (ℕ → Bool) → ℕ → Boo
   pub exact : (x : ℕ → Bool) → cost g′ x ≡ cost g (grown x)
   pub never : (x : ℕ → Bool) → cost g′ x ≤ℤ cost g x
 
--- one law for each reduction, from these
+-- one law for each reduction, from these, in such a graph
 pub record Reductions (g : Graph) : Type 0 where
   pub fixes : (i v : ℕ) → i < g .n → v < 2 → (x : ℕ → Bool) → cost (fix i v g) x ≡ cost g (setAt i (eqb v 1) x)
   pub eliminates : (i : ℕ) → i < g .n → degree g i ≤ 2 → Reduction-of g (eliminate i g) (λ x. setAt i (choiceAt g i x) x)

@@ -31,7 +31,7 @@ use Rattle.block_turn.specs.Blocks as blocks
 use Rattle.take.specs.Ready as take
 use Rattle.steps.specs.Kept as steps
 use Rattle.steps.specs.declared.Steps.{Steps}
-use Rattle.state.specs.Holds.{Lent, graphIn, tallyOf, Counted}
+use Rattle.state.specs.Holds.{Lent, graphIn, tallyOf, OfAll}
 use Rattle.state.specs.declared.State.{State}
 use Rattle.graph.specs.declared.Frame.{Frame}
 use Rattle.sound_run.specs.SoundStart.{start-stands}
@@ -65,7 +65,7 @@ module _ (s : State) (w : Lent) (g : Going s w) where
   counted : (f : run.Tally → ℕ) → f (tallyOf (s .tally)) ≡ f (S .counted)
   counted f = ap f (g .holds .counted)
 
-  going-counted : s .takes + s .blocks < 4294967295 → Counted (s .tally)
+  going-counted : s .takes + s .blocks < 4294967295 → OfAll (s .tally)
   going-counted u = record {
     eliminated = omega (arith, counted (λ (t : run.Tally). t .eliminated), room .eliminated);
     three = omega (arith, counted (λ (t : run.Tally). t .three), room .three);

@@ -20,7 +20,7 @@ abbrev pub tallyOf : Tally → run.Tally
 tallyOf t = run.tally (t .eliminated) (t .three) (t .skipped) (t .contracted) (t .weakly) (t .«in_blocks»)
 
 -- what a run of at most 64 decisions has counted
-pub record Counted (t : Tally) : Type 0 where
+pub record OfAll (t : Tally) : Type 0 where
   pub eliminated : t .eliminated ≤ 64
   pub three : t .three ≤ 64
   pub skipped : t .skipped < 4294967295
@@ -46,7 +46,7 @@ pub record Roomy (t u : Tally) : Type 0 where
   pub weakly : t .weakly + u .weakly < 4294967296
   pub inBlocks : t .«in_blocks» + u .«in_blocks» < 4294967296
 
-pub roomy : (t u : Tally) → Counted t → OfOne u → Roomy t u
+pub roomy : (t u : Tally) → OfAll t → OfOne u → Roomy t u
 roomy t u c o = record {
   eliminated = omega (arith, c .eliminated, o .eliminated);
   three = omega (arith, c .three, o .three);

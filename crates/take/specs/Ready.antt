@@ -10,7 +10,7 @@ use Rattle.rules.specs.Run as run
 use Rattle.rules.specs.Size.{Within}
 use Rattle.queue.specs.Items.{Kept}
 use Rattle.graph.specs.Shows.{Shows}
-use Rattle.state.specs.Holds.{Counted, Lent, graphIn, Holds}
+use Rattle.state.specs.Holds.{OfAll, Lent, graphIn, Holds}
 use Rattle.state.specs.declared.State.{State}
 use Rattle.take.specs.declared.Taken.{Taken}
 
@@ -20,7 +20,7 @@ pub record Steady (s : State) (w : Lent) : Type 0 where
   pub within : Within (graphIn s w)
   pub shown : Shows (s .frame .n) (w .edges) (w .masks)
   pub kept : Kept (s .queue) (w .ring)
-  pub counted : Counted (s .tally)
+  pub counted : OfAll (s .tally)
 
 pub record Ready (s : State) (w : Lent) (i : ℕ) : Type 0 where
   pub below : i < 64
