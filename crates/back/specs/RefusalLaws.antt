@@ -14,7 +14,7 @@ use Rattle.rules.specs.Refuse.{firstRow, notLong, bytesRows, blockRows, readRef
 use Rattle.rules.specs.Call.{unless, reading}
 use Rattle.rules.specs.declared.Record.{Record}
 use Rattle.rules.specs.declared.Reading.{Reading}
-use Rattle.roundtrip.specs.RoundTrip.{accept}
+use Rattle.record_laws.specs.RoundTrip.{accept}
 use Rattle.back.specs.Calls.{Answers}
 
 -- no row of the bytes holds: they are as long as they have to be, and so is the output

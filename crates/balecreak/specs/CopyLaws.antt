@@ -12,8 +12,8 @@ use Rattle.rules.specs.Record.{recordIn, blockOf}
 use Rattle.rules.specs.Refuse.{firstRow, readRefusal}
 use Rattle.rules.specs.declared.Reading.{Reading}
 use Rattle.rules.specs.Call.{reading}
-use Rattle.roundtrip.specs.Bytes.{Bytes}
-use Rattle.roundtrip.specs.RoundTrip.{accept, written-read}
+use Rattle.record_laws.specs.Bytes.{Bytes}
+use Rattle.record_laws.specs.RoundTrip.{accept, written-read}
 use Rattle.back.specs.Calls.{done}
 use Rattle.back.specs.RefusalLaws.{refused, accepted, of-unread, of-read}
 use Rattle.balecreak.specs.Calls.{copyRefusal, Copied}

@@ -10,8 +10,8 @@ use Rattle.rules.specs.Graph.{Graph}
 use Rattle.rules.specs.Eliminate.{Step, step}
 use Rattle.rules.specs.Size.{Within}
 use Rattle.rules.specs.SmallBlock.{cheapest}
-use Rattle.meaning.specs.Found.{SmallBlock}
-use Rattle.accepted.specs.Small.{Small}
+use Rattle.cost_laws.specs.Found.{SmallBlock}
+use Rattle.accepted_laws.specs.Small.{Small}
 use Rattle.block_elimination.specs.declared.Outside.{Outside}
 
 -- for each of `size` fillings f, of the interior costs (c f): the winning mask and its cost; then zeros

@@ -19,7 +19,7 @@ use Rattle.rules.specs.Eliminate as rule
 use Rattle.rules.specs.Record.{hold}
 use Rattle.rules.specs.Size.{Within}
 use Rattle.rules.specs.SmallBlock.{boundary, inner, cheapest, bestMask, blockTable, dropAll, blockSteps}
-use Rattle.accepted.specs.Small.{small-set}
+use Rattle.accepted_laws.specs.Small.{small-set}
 use Rattle.graph.specs.Small.{dropped-within}
 use Rattle.block_minima.specs.Weights.{weights, weights-inner, Minimum}
 use Rattle.block_elimination.specs.Block.{Lowest, pairOf, memberStep}

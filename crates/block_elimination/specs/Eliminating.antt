@@ -16,10 +16,10 @@ use Rattle.rules.specs.Graph.{Graph}
 use Rattle.rules.specs.Eliminate as rule
 use Rattle.rules.specs.Size.{Within}
 use Rattle.rules.specs.SmallBlock.{findBlock, boundary, inner, bestMask, blockTable, dropAll, eliminateBlock, blockSteps}
-use Rattle.meaning.specs.CostLaws.{Shaped}
-use Rattle.meaning.specs.BlockCost.{boundary-apart}
-use Rattle.meaning.specs.Found.{found-block}
-use Rattle.accepted.specs.Small.{Small, small-more}
+use Rattle.cost_laws.specs.CostLaws.{Shaped}
+use Rattle.cost_laws.specs.BlockCost.{boundary-apart}
+use Rattle.cost_laws.specs.Found.{found-block}
+use Rattle.accepted_laws.specs.Small.{Small, small-more}
 use Rattle.low_degree.specs.AbsorbLaws.{pair-whole, absorb-same}
 use Rattle.small_block.specs.Held.{blockBy}
 use Rattle.small_block.specs.Seeking.{a-block}

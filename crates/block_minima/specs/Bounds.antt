@@ -11,7 +11,7 @@ use Rattle.whole.specs.Words.{chosen}
 use Rattle.rules.specs.Graph.{Graph, row}
 use Rattle.rules.specs.Size.{Within}
 use Rattle.rules.specs.SmallBlock.{inner}
-use Rattle.size_rule.specs.SumSizes.{chosen-edges, chosen-part, inner-size, inner-part}
+use Rattle.size_laws.specs.SumSizes.{chosen-edges, chosen-part, inner-size, inner-part}
 use Rattle.block_minima.specs.Weights.{Listed}
 
 module _ (g : Graph) (v : Within g) {list : List ℕ} {count : ℕ} (w : Listed list count) where

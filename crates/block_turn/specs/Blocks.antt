@@ -10,7 +10,7 @@ use Rattle.rules.specs.Objective.{smallBlock}
 use Rattle.rules.specs.Graph.{neighbours}
 use Rattle.rules.specs.SmallBlock.{none, findBlock}
 use Rattle.rules.specs.Run as run
-use Rattle.meaning.specs.Growth.{Network}
+use Rattle.cost_laws.specs.Growth.{Network}
 use Rattle.graph.specs.Held.{held}
 use Rattle.small_block.specs.Held.{blockBy}
 use Rattle.small_block.specs.declared.Growth.{Growth}

@@ -11,8 +11,8 @@ use Rattle.whole.specs.Members.{apart-wider}
 use Rattle.rules.specs.Graph.{Graph, neighbours, addConstant, addLinear, dropTo}
 use Rattle.rules.specs.Eliminate.{tee}
 use Rattle.rules.specs.DegreeThree.{moebius, pairs, addPairs, absorb3, eliminate3}
-use Rattle.meaning.specs.Growth.{neighbours-apart}
-use Rattle.meaning.specs.DegreeThreeLaws.{Triple, triple-of}
+use Rattle.cost_laws.specs.Growth.{neighbours-apart}
+use Rattle.cost_laws.specs.DegreeThreeLaws.{Triple, triple-of}
 use Rattle.graph.specs.Held.{held, withConstant, DoesEdges}
 use Rattle.graph.specs.Near.{nearOf}
 use Rattle.graph.specs.NearLaws.{near-count, near-list, near-whole}

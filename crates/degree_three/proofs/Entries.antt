@@ -11,8 +11,8 @@ use Rattle.whole.specs.Parts.{∣_∣}
 use Rattle.whole.specs.Ints.{rd}
 use Rattle.whole.specs.Words.{tab}
 use Rattle.rules.specs.DegreeThree.{pass, moebius}
-use Rattle.accepted.specs.Small.{Small}
-use Rattle.size_rule.specs.Sizes.{pass-size}
+use Rattle.accepted_laws.specs.Small.{Small}
+use Rattle.size_laws.specs.Sizes.{pass-size}
 use Rattle.whole.specs.Fits.{fit}
 
 -- a difference that fits, kept and read back

@@ -9,7 +9,7 @@ use lib.IntN.{ℤ, pos, _+ℤ_}
 use Rattle.whole.specs.Cells.{cells-other}
 use Rattle.rules.specs.Graph.{Graph, addEdge}
 use Rattle.rules.specs.DegreeThree.{pairs, addPairs}
-use Rattle.meaning.specs.DegreeThreeLaws.{Triple, triple}
+use Rattle.cost_laws.specs.DegreeThreeLaws.{Triple, triple}
 use Rattle.degree_three.specs.Pairs.{rulePair}
 
 pub pair-few : (p : ℕ) → p < 3 → (rulePair p .low < 3) × (rulePair p .high < 3) × (rulePair p .mask < 8)

@@ -9,11 +9,11 @@ ghost use Rattle.rules.specs.Eliminate.{stepOf};
 ghost use Rattle.rules.specs.DegreeThree.{moebius as transformed, cubic, pairs, addPairs, absorb3, eliminate3};
 ghost use Rattle.rules.specs.Record.{hold, noStep};
 ghost use Rattle.rules.specs.Size.{Within};
-ghost use Rattle.meaning.specs.DegreeThreeLaws.{Triple};
+ghost use Rattle.cost_laws.specs.DegreeThreeLaws.{Triple};
 ghost use Rattle.graph.specs.Held.{held, DoesEdges};
 ghost use Rattle.graph.specs.Near.{nearOf};
 ghost use Rattle.graph.specs.Shows.{Shows};
-ghost use Rattle.accepted.specs.Small.{Small};
+ghost use Rattle.accepted_laws.specs.Small.{Small};
 ghost use Rattle.degree_three.specs.Pairs.{pairAt};
 
 // Two of three neighbours, and the Möbius entry that goes to their edge.

@@ -22,7 +22,7 @@ use Rattle.whole.specs.Masks.{these, these-below, these-apart, first-in}
 use Rattle.whole.specs.Members.{in-tail, apart-new}
 use Rattle.whole.specs.Pigeon.{Apart}
 use Rattle.whole.specs.Fits.{fit, read}
-use Rattle.size_rule.specs.Sizes.{neg-size}
+use Rattle.size_laws.specs.Sizes.{neg-size}
 use Rattle.low_degree.proofs.Laws.{gain-fits}
 use Rattle.rules.specs.Graph.{Graph, lin, edge, neighbours, addConstant, addLinear, addEdge, dropTo}
 use Rattle.rules.specs.Eliminate.{step}
@@ -33,7 +33,7 @@ use Rattle.graph.specs.Held.{held, withConstant, Does, DoesEdges}
 use Rattle.graph.specs.HeldLaws.{linear-gain}
 use Rattle.graph.specs.NearLaws.{mem-inside}
 use Rattle.graph.specs.Shows.{Shows}
-use Rattle.accepted.specs.Small.{Small, small-tab}
+use Rattle.accepted_laws.specs.Small.{Small, small-tab}
 use Rattle.graph.specs.declared.Frame.{Frame}
 use Rattle.dominant_edge.specs.Answer.{Gone, Shown-on}
 use Rattle.dominant_edge.proofs.Taking.{parts, low, left-fits}

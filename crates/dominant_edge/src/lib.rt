@@ -17,7 +17,7 @@ ghost use Rattle.graph.specs.Held.{held};
 ghost use Rattle.whole.specs.Masks.{these};
 ghost use Rattle.rules.specs.Graph.{neighbours};
 ghost use Rattle.graph.specs.Shows.{Shows};
-ghost use Rattle.accepted.specs.Small.{Small};
+ghost use Rattle.accepted_laws.specs.Small.{Small};
 ghost use Rattle.dominant_edge.specs.Answer.{verdictOf, testOf, Bounds-are, Finds, Turns, Moves, Shown-on};
 
 // The least and the largest that a decision's delta can be.

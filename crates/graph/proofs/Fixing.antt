@@ -10,7 +10,7 @@ use Rattle.whole.specs.Lists.{tab-at, length-tab}
 use Rattle.rules.specs.Graph.{Graph, graph, edge, lin, neighbours, addConstant, dropTo, clear}
 use Rattle.rules.specs.Fixing.{spread, fix}
 use Rattle.rules.specs.Objective.{weightOf}
-use Rattle.accepted.specs.Mass.{mass, weight-at, weight-set, weight-append, weight-zeros, weight-clear, abs-add}
+use Rattle.accepted_laws.specs.Mass.{mass, weight-at, weight-set, weight-append, weight-zeros, weight-clear, abs-add}
 use Rattle.graph.specs.Held.{Spreads}
 use Rattle.graph.specs.HeldLaws.{dropped-n}
 

@@ -20,7 +20,7 @@ use Rattle.whole.specs.Those.{rest-more, rest-same, rest-end}
 use Rattle.rules.specs.Graph.{Graph, edge, addLinear, addEdge, addTerm, addTerms}
 use Rattle.rules.specs.Fixing.{spread, fix, fixAll}
 use Rattle.rules.specs.Objective.{weightOf}
-use Rattle.accepted.specs.Mass.{weight-at, weight-set, weight-gain, abs-add}
+use Rattle.accepted_laws.specs.Mass.{weight-at, weight-set, weight-gain, abs-add}
 use Rattle.graph.specs.Held.{Does}
 
 -- two numbers of the mass

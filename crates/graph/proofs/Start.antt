@@ -9,8 +9,8 @@ use Rattle.whole.specs.Lists.{drop-replicate}
 use Rattle.rules.specs.Graph.{Graph, addTerms, bare, graphOf, noEdges}
 use Rattle.rules.specs.Fixing.{fixAll, start}
 use Rattle.rules.specs.Objective.{objective, weightOf}
-use Rattle.accepted.specs.Mass.{weight-append, weight-zeros}
-use Rattle.accepted.specs.Accept.{Fit}
+use Rattle.accepted_laws.specs.Mass.{weight-append, weight-zeros}
+use Rattle.accepted_laws.specs.Accept.{Fit}
 use Rattle.graph.specs.Held.{held, noLinear, Below, Does}
 use Rattle.graph.specs.declared.Frame.{Frame}
 

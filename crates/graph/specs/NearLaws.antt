@@ -11,7 +11,7 @@ use Rattle.whole.specs.Words.{isZeroZ, tab, mem}
 use Rattle.whole.specs.Lists.{held-whole}
 use Rattle.whole.specs.Members.{in-at, low-at}
 use Rattle.rules.specs.Graph.{Graph, row, neighbours}
-use Rattle.meaning.specs.Growth.{neighbours-apart, in-nbrs}
+use Rattle.cost_laws.specs.Growth.{neighbours-apart, in-nbrs}
 use Rattle.graph.specs.Near.{three, nearAmong, nearOf}
 use Rattle.graph.specs.declared.Near.{Near}
 

@@ -9,7 +9,7 @@ use lib.IntN.{ℤ, pos}
 use Rattle.whole.specs.Parts.{∣_∣}
 use Rattle.rules.specs.Graph.{Graph, dropTo, neighbours}
 use Rattle.rules.specs.Size.{Within}
-use Rattle.accepted.specs.Small.{Small, small-set, small-clear, small-map}
+use Rattle.accepted_laws.specs.Small.{Small, small-set, small-clear, small-map}
 use Rattle.graph.specs.Near.{three, nearOf}
 
 pub small-three : {b : ℕ} {ws : List ℤ} → Small b ws → Small b (three ws (pos 0))

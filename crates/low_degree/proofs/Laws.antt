@@ -23,13 +23,13 @@ use Rattle.whole.specs.Members.{apart-head, apart-tail, apart-new, apart-wider,
 use Rattle.whole.specs.Pigeon.{Apart}
 use Rattle.rules.specs.Graph.{Graph, neighbours, addConstant, addLinear, addEdge, dropTo}
 use Rattle.rules.specs.Eliminate.{tee, absorb, eliminate}
-use Rattle.meaning.specs.Growth.{neighbours-apart}
+use Rattle.cost_laws.specs.Growth.{neighbours-apart}
 use Rattle.graph.specs.Near.{three, nearOf}
 use Rattle.graph.specs.NearLaws.{near-count, near-list}
 use Rattle.graph.specs.declared.Near.{Near}
 use Rattle.graph.specs.Held.{held, withConstant}
-use Rattle.accepted.specs.Small.{Small}
-use Rattle.size_rule.specs.Sizes.{delta-size, gain-size}
+use Rattle.accepted_laws.specs.Small.{Small}
+use Rattle.size_laws.specs.Sizes.{delta-size, gain-size}
 use Rattle.graph.specs.declared.Frame.{Frame}
 use Rattle.low_degree.specs.Table.{deltasOf}
 use Rattle.low_degree.specs.AbsorbLaws.{pair-whole, absorb-same}

@@ -22,7 +22,7 @@ use Rattle.rules.specs.Record.{hold}
 use Rattle.rules.specs.Size.{Within}
 use Rattle.graph.specs.Near.{three, nearOf}
 use Rattle.graph.specs.NearLaws.{near-count, near-list, near-weights}
-use Rattle.accepted.specs.Small.{Small}
+use Rattle.accepted_laws.specs.Small.{Small}
 use Rattle.graph.specs.Small.{small-near}
 use Rattle.graph.specs.declared.Near.{Near}
 use Rattle.low_degree.specs.declared.Table.{Table}

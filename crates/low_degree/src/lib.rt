@@ -14,7 +14,7 @@ ghost use Rattle.rules.specs.Size.{Within};
 ghost use Rattle.graph.specs.Held.{held};
 ghost use Rattle.graph.specs.Near.{nearOf};
 ghost use Rattle.graph.specs.Shows.{Shows};
-ghost use Rattle.accepted.specs.Small.{Small};
+ghost use Rattle.accepted_laws.specs.Small.{Small};
 ghost use Rattle.low_degree.specs.Table.{deltasOf, teesOf, choicesOf, stepFrom, Tables};
 
 // What a reduction leaves: the frame, and the step that grows its decision back.

@@ -17,7 +17,7 @@ use mir.Val.{toZ}
 use borrow.Author.Tests.{lt-ltb, le-ltb, ltb-true, eq-eqb, ne-eqb}
 use Rattle.whole.specs.Ints.{ints, abs-step}
 use Rattle.whole.specs.Counts.{one-left, next-place}
-use Rattle.roundtrip.specs.Bytes.{Bytes, bytes-front, from-below}
+use Rattle.record_laws.specs.Bytes.{Bytes, bytes-front, from-below}
 use Rattle.rules.specs.Record.{little, fromLittle, twos, fromTwos, sums, check, checkRight}
 
 -- ---- writing: the lowest byte, then the rest

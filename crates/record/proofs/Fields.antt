@@ -9,8 +9,8 @@ use lib.Seq.{sets}
 use Rattle.rules.specs.Record.{edition, stepBytes, stepsBytes, little, twos, body, check, sealed}
 use Rattle.rules.specs.declared.Step.{Step}
 use Rattle.rules.specs.declared.Record.{Record}
-use Rattle.roundtrip.specs.Bytes.{little-length}
-use Rattle.roundtrip.specs.Fields.{Held, steps-length, body-length}
+use Rattle.record_laws.specs.Bytes.{little-length}
+use Rattle.record_laws.specs.Fields.{Held, steps-length, body-length}
 use Rattle.record.proofs.Stores.{sets-on, sets-end, take-sets}
 
 abbrev pub head : Record → List ℕ

@@ -16,8 +16,8 @@ use Rattle.rules.specs.Outcome.{linearOut, edgeOut, outcomeOf, outcome}
 use Rattle.rules.specs.Refuse.{reduceRefusal}
 use Rattle.rules.specs.Call.{unless, refused, reported, reduction, linearAfter, edgesAfter}
 use Rattle.rules.specs.declared.Reduction.{Reduction}
-use Rattle.accepted.specs.Accept.{Fit}
-use Rattle.sound_run.specs.SoundStart.{ended-n}
+use Rattle.accepted_laws.specs.Accept.{Fit}
+use Rattle.sound_laws.specs.SoundStart.{ended-n}
 use Rattle.run_laws.specs.RunEnds.{ended-few}
 use Rattle.run_laws.specs.InOrder.{Room}
 use Rattle.run_laws.specs.InOrderLaws.{ended-room}

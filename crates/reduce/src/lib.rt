@@ -5,7 +5,7 @@ ghost use lib.ListN.{length};
 ghost use Rattle.rules.specs.Objective.{objective};
 ghost use Rattle.rules.specs.Outcome.{outcome};
 ghost use Rattle.rules.specs.Call.{refused, reported};
-ghost use Rattle.accepted.specs.Accept.{Accepted};
+ghost use Rattle.accepted_laws.specs.Accept.{Accepted};
 ghost use Rattle.reduce.specs.Gives.{Done, Gives, recordFrom, countsFrom, reportFrom};
 use rules::Counts;
 use rules::Record;

@@ -6,11 +6,11 @@ use Rattle.rules.specs.Objective.{Objective}
 use Rattle.rules.specs.Run.{ended}
 use Rattle.rules.specs.Outcome.{outcomeOf, outcome}
 use Rattle.rules.specs.Refuse.{reduceRefusal}
-use Rattle.accepted.specs.Accept.{Fit, accept}
-use Rattle.sound_run.specs.SoundStart.{statesFrom, ended-n}
+use Rattle.accepted_laws.specs.Accept.{Fit, accept}
+use Rattle.sound_laws.specs.SoundStart.{statesFrom, ended-n}
 use Rattle.run_laws.specs.InOrderLaws.{ended-room}
-use Rattle.demand_three.specs.RunEnds.{endSteps, end-fine, end-taken}
-use Rattle.run_record.specs.RunRecord.{steps-narrow}
+use Rattle.demand_laws.specs.RunEnds.{endSteps, end-fine, end-taken}
+use Rattle.run_record_laws.specs.RunRecord.{steps-narrow}
 use Rattle.write_text.specs.HeldLaws.{Reported, outcome-reported}
 
 of-fit : (o : Objective) → Fit o → Reported (o .n) (outcome o)

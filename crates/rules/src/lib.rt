@@ -1,4 +1,6 @@
 // What the calls of 01-scope.md take and give back. The rules themselves stand in specs/.
+ghost use mathlib.Core.Path.{_≡_};
+ghost use Rattle.rules.specs.Record.{noStep, noRecord};
 
 // A step as the record holds it: decision, degree d, three neighbours, choices (bit m for mask m).
 pub struct Step {
@@ -10,6 +12,20 @@ pub struct Step {
     pub choices: u8,
 }
 
+// A step that is not used.
+pub fn no_step() -> Step
+    ensures { λ r. ⌜ r ≡ noStep ⌝ }
+{
+    Step {
+        decision: 0,
+        degree: 0,
+        first: 0,
+        second: 0,
+        third: 0,
+        choices: 0,
+    }
+}
+
 // How to grow an answer back. `count` is the number of steps; a state for each decision: 0 or 1 fixed, 2 remaining, 3 eliminated.
 pub struct Record {
     pub n: u8,
@@ -17,6 +33,20 @@ pub struct Record {
     pub constant: i64,
     pub states: [u8; 64],
     pub steps: [Step; 64],
+}
+
+// What a refusal gives in place of one.
+pub fn no_record() -> Record
+    ensures { λ r. ⌜ r ≡ noRecord ⌝ }
+{
+    let none = no_step();
+    Record {
+        n: 0,
+        count: 0,
+        constant: 0,
+        states: [0; 64],
+        steps: [none; 64],
+    }
 }
 
 // What reading a block gives: a refusal's number with an empty record, or 0 and the record.

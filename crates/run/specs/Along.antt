@@ -14,7 +14,7 @@ use Rattle.rules.specs.Eliminate as rule
 use Rattle.rules.specs.Outcome.{units}
 use Rattle.rules.specs.Run as run
 use Rattle.rules.specs.Run.{over, due, next}
-use Rattle.sound_run.specs.SoundStart.{start-stands}
+use Rattle.sound_laws.specs.SoundStart.{start-stands}
 use Rattle.run_laws.specs.DueLaws.{run-over, run-turn, run-cut, units-next}
 use Rattle.run_laws.specs.InOrder.{InOrder}
 use Rattle.run_laws.specs.InOrderLaws.{begin-in-order, next-in-order, in-order-room}

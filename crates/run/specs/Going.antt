@@ -10,7 +10,7 @@ use Rattle.rules.specs.Fixing.{start}
 use Rattle.rules.specs.Outcome.{units}
 use Rattle.rules.specs.Run as run
 use Rattle.rules.specs.Run.{over, due, next}
-use Rattle.accepted.specs.Accept.{Fit}
+use Rattle.accepted_laws.specs.Accept.{Fit}
 use Rattle.run_laws.specs.InOrder.{InOrder}
 use Rattle.graph.specs.Held.{held}
 use Rattle.graph.specs.declared.Frame.{Frame}

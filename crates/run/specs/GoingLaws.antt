@@ -16,9 +16,9 @@ use Rattle.rules.specs.Fixing.{start}
 use Rattle.rules.specs.SmallBlock.{findBlock, members}
 use Rattle.rules.specs.Run as run
 use Rattle.rules.specs.Size.{Within}
-use Rattle.meaning.specs.Found.{found-live}
-use Rattle.meaning.specs.Neat.{neat-tidy, neat-network}
-use Rattle.meaning.specs.Stands.{Fine}
+use Rattle.cost_laws.specs.Found.{found-live}
+use Rattle.cost_laws.specs.Neat.{neat-tidy, neat-network}
+use Rattle.cost_laws.specs.Stands.{Fine}
 use Rattle.run_laws.specs.QueueLaws.{actives-apart}
 use Rattle.run_laws.specs.RemainingLaws.{remaining-count, to-actives}
 use Rattle.run_laws.specs.InOrder.{Room}
@@ -34,7 +34,7 @@ use Rattle.steps.specs.declared.Steps.{Steps}
 use Rattle.state.specs.Holds.{Lent, graphIn, tallyOf, OfAll}
 use Rattle.state.specs.declared.State.{State}
 use Rattle.graph.specs.declared.Frame.{Frame}
-use Rattle.sound_run.specs.SoundStart.{start-stands}
+use Rattle.sound_laws.specs.SoundStart.{start-stands}
 use Rattle.run.specs.Going.{Going, Started}
 
 module _ (s : State) (w : Lent) (g : Going s w) where

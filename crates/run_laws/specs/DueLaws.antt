@@ -10,7 +10,7 @@ use Rattle.rules.specs.SmallBlock.{Block, none, members, findBlock}
 use Rattle.rules.specs.Fixing.{start}
 use Rattle.rules.specs.Outcome.{units}
 use Rattle.rules.specs.Run.{State, way, go, takeFront, blocked, Next, over, due, dueBlock, dueAt, next, Ended, onward, run, begin, ended}
-use Rattle.meaning.specs.RunLaws.{Used, run-used}
+use Rattle.cost_laws.specs.RunLaws.{Used, run-used}
 use Rattle.whole.specs.Counts.{one-left}
 
 -- "a take or a found block is due"

@@ -6,7 +6,7 @@ use lib.ListN.{length}
 use Rattle.whole.specs.Pigeon.{Apart}
 use Rattle.rules.specs.Graph.{Graph}
 use Rattle.rules.specs.Run.{State}
-use Rattle.sound_run.specs.Sound.{Sound}
+use Rattle.sound_laws.specs.Sound.{Sound}
 
 -- the counts, against the steps and the units
 pub record Counted (s : State) : Type 0 where

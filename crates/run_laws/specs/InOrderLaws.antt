@@ -18,19 +18,19 @@ use Rattle.rules.specs.DegreeThree.{eliminate3}
 use Rattle.rules.specs.DominantEdge.{weak, contract, contractStep}
 use Rattle.rules.specs.SmallBlock.{eliminateBlock, blockSteps}
 use Rattle.rules.specs.Run.{Tally, tally, plus, State, waiting, Way, inactive, low, into, three, failed, idle, way, join, reduced, skipped, go, takeFront, blocked, due, next, run, begin, ended}
-use Rattle.meaning.specs.Growth.{in-nbrs}
-use Rattle.meaning.specs.Stands.{Fine}
-use Rattle.meaning.specs.Found.{found-block}
-use Rattle.accepted.specs.Accept.{Fit}
-use Rattle.sound_run.specs.Sound.{Sound}
-use Rattle.sound_run.specs.SoundRun.{run-sound, begin-sound}
-use Rattle.sound_run.specs.SoundStart.{start-stands}
-use Rattle.size_rule.specs.RunWithin.{reduced-within}
+use Rattle.cost_laws.specs.Growth.{in-nbrs}
+use Rattle.cost_laws.specs.Stands.{Fine}
+use Rattle.cost_laws.specs.Found.{found-block}
+use Rattle.accepted_laws.specs.Accept.{Fit}
+use Rattle.sound_laws.specs.Sound.{Sound}
+use Rattle.sound_laws.specs.SoundRun.{run-sound, begin-sound}
+use Rattle.sound_laws.specs.SoundStart.{start-stands}
+use Rattle.size_laws.specs.RunWithin.{reduced-within}
 use Rattle.run_laws.specs.DueLaws.{Due, take, block, next-due, run-one}
 use Rattle.run_laws.specs.QueueLaws.{waiting-apart, join-apart}
 use Rattle.run_laws.specs.StepLaws.{steps-few, block-steps-length}
 use Rattle.run_laws.specs.InOrder.{Counted, InOrder, Room}
-use Rattle.meaning.specs.RunLaws.{run-keeps}
+use Rattle.cost_laws.specs.RunLaws.{run-keeps}
 
 -- ---- the counts
 one-more : (steps : List Step) (s : Step) → length (steps ++ s ∷ []) ≡ length steps + 1

@@ -12,9 +12,9 @@ use Rattle.whole.specs.Tests.{cases, clash, refuse}
 use Rattle.whole.specs.Members.{to-those, in-upto, in-append, in-left, in-right, out-of-cons, apart-join, few}
 use Rattle.rules.specs.Graph.{Graph, active, actives}
 use Rattle.rules.specs.Eliminate.{Step}
-use Rattle.meaning.specs.Found.{in-actives}
-use Rattle.meaning.specs.Stands.{Alive, marked, alive-marked}
-use Rattle.sound_run.specs.Sound.{decisions, Sound}
+use Rattle.cost_laws.specs.Found.{in-actives}
+use Rattle.cost_laws.specs.Stands.{Alive, marked, alive-marked}
+use Rattle.sound_laws.specs.Sound.{decisions, Sound}
 use Rattle.run_laws.specs.QueueLaws.{actives-apart}
 use Rattle.run_laws.specs.StepLaws.{still-alive, steps-alive, steps-apart}
 

@@ -12,15 +12,15 @@ use Rattle.rules.specs.Fixing.{start}
 use Rattle.rules.specs.Outcome.{units}
 use Rattle.rules.specs.SmallBlock.{blockSteps}
 use Rattle.rules.specs.Run.{State, Way, inactive, low, into, three, failed, idle, way, reduced, skipped, go, takeFront, blocked, Next, over, due, next, onward, run, begin, ended}
-use Rattle.meaning.specs.Stands.{Fine}
-use Rattle.meaning.specs.Found.{found-block}
-use Rattle.accepted.specs.Accept.{Fit}
-use Rattle.sound_run.specs.SoundStart.{start-stands}
+use Rattle.cost_laws.specs.Stands.{Fine}
+use Rattle.cost_laws.specs.Found.{found-block}
+use Rattle.accepted_laws.specs.Accept.{Fit}
+use Rattle.sound_laws.specs.SoundStart.{start-stands}
 use Rattle.run_laws.specs.DueLaws.{Due, take, block, next-due, units-next}
 use Rattle.run_laws.specs.StepLaws.{block-steps-length}
 use Rattle.run_laws.specs.InOrder.{InOrder}
 use Rattle.run_laws.specs.InOrderLaws.{begin-in-order, next-in-order, in-order-steps, in-order-room}
-use Rattle.meaning.specs.RunLaws.{run-keeps}
+use Rattle.cost_laws.specs.RunLaws.{run-keeps}
 
 -- what is left to do: each waiting decision is a take, and each decision that may still leave may fill the queue once more
 abbrev pub left : ℕ → State → ℕ

@@ -16,9 +16,9 @@ use Rattle.whole.specs.Members.{in-cons}
 use Rattle.rules.specs.Graph.{Graph}
 use Rattle.rules.specs.Eliminate.{Step}
 use Rattle.rules.specs.SmallBlock.{blockSteps}
-use Rattle.meaning.specs.Stands.{Alive}
-use Rattle.sound_run.specs.Sound.{Steps, decisions}
-use Rattle.sound_run.specs.SoundReductions.{block-decisions}
+use Rattle.cost_laws.specs.Stands.{Alive}
+use Rattle.sound_laws.specs.Sound.{Steps, decisions}
+use Rattle.sound_laws.specs.SoundReductions.{block-decisions}
 
 -- what has been eliminated is not active
 gone-state : (ss : List ℕ) (i : ℕ) → eqb (getD (set ss i 3) i 0) 2 ≡ false

@@ -12,7 +12,7 @@ use borrow.Author.Tests.{lt-ltb, le-ltb}
 use Rattle.whole.specs.Words.{bit, mem, those, some}
 use Rattle.rules.specs.SmallBlock.{component, besides, isCut}
 use Rattle.whole.specs.Members.{out-of-cons, in-head}
-use Rattle.meaning.specs.Growth.{Network, parted, free, cut-from-first}
+use Rattle.cost_laws.specs.Growth.{Network, parted, free, cut-from-first}
 use Rattle.whole.specs.Masks.{these, bit-single, these-less, these-end, first-in, those-ext, turn}
 use Rattle.small_block.specs.Held.{nearBy, removedBy}
 

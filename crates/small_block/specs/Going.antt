@@ -13,8 +13,8 @@ use Rattle.whole.specs.Words.{bit, mem}
 use Rattle.rules.specs.SmallBlock.{fresh, grow, component}
 use Rattle.whole.specs.Pigeon.{Apart, pigeon}
 use Rattle.whole.specs.Members.{mem-append}
-use Rattle.meaning.specs.Growth.{Network, Growing, turn}
-use Rattle.meaning.specs.Turns.{idle-turns}
+use Rattle.cost_laws.specs.Growth.{Network, Growing, turn}
+use Rattle.cost_laws.specs.Turns.{idle-turns}
 use Rattle.whole.specs.Masks.{these, bit-or, mem-these, these-below, these-less, those-ext}
 use Rattle.whole.specs.Counts.{one-left}
 use Rattle.small_block.specs.Held.{nearBy}

@@ -16,7 +16,7 @@ use Rattle.whole.specs.Words.{bit, mem, some}
 use Rattle.rules.specs.SmallBlock.{component}
 use Rattle.whole.specs.Tests.{cases, clash, refuse, or-true, or-false, or-left, or-right, and-true, and-both, not-off, not-on, on-not, off-not}
 use Rattle.whole.specs.Members.{in-single, in-head, in-append, in-left, in-right, some-true, some-none, apart-below}
-use Rattle.meaning.specs.Growth.{Network, Grown, component-grown}
+use Rattle.cost_laws.specs.Growth.{Network, Grown, component-grown}
 use Rattle.whole.specs.Masks.{these, bit-or, bit-and, bit-less, bit-single, bit-none, mem-these, these-below, first-in, turn, lowest-off}
 use Rattle.small_block.specs.Held.{nearBy}
 use Rattle.small_block.specs.Cutting.{low-mask}

@@ -8,7 +8,7 @@ ghost use lib.ListN.{length, take, getD};
 ghost use Rattle.whole.specs.Words.{mem, bit, those, some, upto};
 ghost use Rattle.rules.specs.Graph.{neighbours};
 ghost use Rattle.rules.specs.SmallBlock.{component, isCut, among, overCuts, search as searched, findBlock};
-ghost use Rattle.meaning.specs.Growth.{Network};
+ghost use Rattle.cost_laws.specs.Growth.{Network};
 ghost use Rattle.whole.specs.Masks.{these};
 ghost use Rattle.small_block.specs.Held.{nearBy, removedBy, blockBy};
 ghost use Rattle.small_block.specs.Going.{GrownAs};

@@ -7,7 +7,7 @@ use Prim.Native.Nat.{ℕ}
 use lib.Dec.{eqb}
 use lib.IntN.{ℤ, _+ℤ_, negℤ}
 use Rattle.rules.specs.Graph.{Graph, lin, edge, neighbours, addConstant, addLinear, addEdge, dropTo}
-use Rattle.meaning.specs.BlockCost.{drop-all-n}
+use Rattle.cost_laws.specs.BlockCost.{drop-all-n}
 use Rattle.rules.specs.Eliminate.{absorb, tee, eliminate}
 use Rattle.rules.specs.DegreeThree.{addPairs, absorb3, eliminate3}
 use Rattle.rules.specs.SmallBlock.{boundary, blockTable, dropAll, eliminateBlock}

@@ -13,7 +13,7 @@ ghost use Rattle.graph.specs.Held.{held};
 ghost use Rattle.whole.specs.Masks.{these};
 ghost use Rattle.rules.specs.Graph.{Graph, neighbours};
 ghost use Rattle.graph.specs.Near.{nearOf};
-ghost use Rattle.accepted.specs.Small.{Small};
+ghost use Rattle.accepted_laws.specs.Small.{Small};
 ghost use Rattle.dominant_edge.specs.Answer.{dominantOf};
 ghost use Rattle.state.specs.Holds.{lent};
 ghost use Rattle.take.specs.Ready.{Ready, Goes, Takeable, Takes};

@@ -81,8 +81,11 @@ bit-xor a b k =
     ∙ ap (λ (z : ℕ). eqb z 1) (last (bitXor (a / 2 ^ k / 2) (b / 2 ^ k / 2)) (differ (a / 2 ^ k % 2) (b / 2 ^ k % 2)) (differ-low (a / 2 ^ k % 2) (b / 2 ^ k % 2) (digit (a / 2 ^ k)) (digit (b / 2 ^ k))))
     ∙ xor-digit (a / 2 ^ k % 2) (b / 2 ^ k % 2) (digit (a / 2 ^ k)) (digit (b / 2 ^ k))
 
--- a and not s, as a ^ (a & s)
-pub bit-less : (a s k : ℕ) → bit (bitXor a (bitAnd a s)) k ≡ (bit a k && not (bit s k))
+-- those of a that are not in s, as the code makes them: a ^ (a & s)
+abbrev pub without : ℕ → ℕ → ℕ
+without a s = bitXor a (bitAnd a s)
+
+pub bit-less : (a s k : ℕ) → bit (without a s) k ≡ (bit a k && not (bit s k))
 bit-less a s k = bit-xor a (bitAnd a s) k ∙ ap (unlike (bit a k)) (bit-and a s k) ∙ tidy (bit a k) (bit s k)
   where
     tidy : (x y : Bool) → unlike x (x && y) ≡ (x && not y)
@@ -151,9 +154,9 @@ unfolding these
 these-apart m = apart-those (λ j. bit m j) (apart-upto 64)
 
 -- what a has and s has not
-pub these-less : (a s : ℕ) → these (bitXor a (bitAnd a s)) ≡ those (λ k. not (bit s k)) (these a)
+pub these-less : (a s : ℕ) → these (without a s) ≡ those (λ k. not (bit s k)) (these a)
 unfolding these
-these-less a s = those-ext (λ k. bit (bitXor a (bitAnd a s)) k) (λ k. bit a k && not (bit s k)) (upto 64) (λ k m. bit-less a s k) ∙ sym (those-those (λ k. not (bit s k)) (λ k. bit a k) (upto 64))
+these-less a s = those-ext (λ k. bit (without a s) k) (λ k. bit a k && not (bit s k)) (upto 64) (λ k m. bit-less a s k) ∙ sym (those-those (λ k. not (bit s k)) (λ k. bit a k) (upto 64))
 
 -- the same, digit by digit from p up
 unfoldable places : ℕ → ℕ → ℕ → List ℕ

@@ -15,7 +15,7 @@ use Rattle.whole.specs.Words.{isZeroZ, oneIf}
 use Rattle.rules.specs.Eliminate.{Step}
 use Rattle.rules.specs.Outcome.{Outcome}
 use Rattle.rules.specs.WriteText.{decimal, shownZ, listed, listedZ, edgeIf, edgeLines, choicesOf, stepLine, stepLines, yesNo, written}
-use Rattle.roundtrip.specs.Steps.{Few}
+use Rattle.record_laws.specs.Steps.{Few}
 use Rattle.write_text.specs.WriteLaws.{edge-length, step-length, opening-length, closing-length, written-parts}
 
 -- a number below 10, 100, .. has 1, 2, .. digits at most

@@ -23,7 +23,7 @@ use Rattle.rules.specs.WriteText.{edgeLines, stepLines, written}
 use Rattle.rules.specs.declared.Step.{Step}
 use Rattle.rules.specs.declared.Reduction.{Reduction}
 use Rattle.whole.specs.Those.{those-most}
-use Rattle.roundtrip.specs.Steps.{Few, all-held}
+use Rattle.record_laws.specs.Steps.{Few, all-held}
 use Rattle.write_text.specs.Bounds.{Moderate, written-most}
 use Rattle.write_text.specs.Held.{held, Short, Fair, opening, closing}
 use Rattle.write_text.specs.Puts.{room}

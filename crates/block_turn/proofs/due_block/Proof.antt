@@ -5,7 +5,7 @@ use Prim.Native.Nat.{ℕ}
 use borrow.Author.Needs.{needs}
 use denote.Ref.{now}
 use Rattle.rules.specs.SmallBlock.{none, findBlock}
-use Rattle.meaning.specs.Growth.{Network}
+use Rattle.cost_laws.specs.Growth.{Network}
 use Rattle.graph.specs.Held.{held}
 use Rattle.small_block.specs.Tables.{shape-block, shape-near}
 use Rattle.block_turn.proofs.due_block.Statement.{statement}

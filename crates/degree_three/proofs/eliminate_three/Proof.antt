@@ -4,8 +4,8 @@ use Rattle.low_degree.specs.TableLaws.{degree-few, table-asks, table-gives, ste
 use Rattle.whole.specs.Cmp.{zero-is, zero-not}
 use Rattle.graph.specs.Held.{held}
 use Rattle.graph.specs.NearLaws.{near-inside}
-use Rattle.accepted.specs.Small.{Small, small-more}
-use Rattle.size_rule.specs.SumSizes.{tees-three, entries-three}
+use Rattle.accepted_laws.specs.Small.{Small, small-more}
+use Rattle.size_laws.specs.SumSizes.{tees-three, entries-three}
 use Rattle.graph.specs.Small.{dropped-within}
 use Rattle.rules.specs.Graph.{Graph, degree}
 use Rattle.rules.specs.Eliminate.{delta, tee, stepOf}

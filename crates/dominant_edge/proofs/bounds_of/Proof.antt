@@ -8,8 +8,8 @@ use Rattle.whole.specs.Words.{below0, above0}
 use Rattle.whole.specs.Masks.{these, these-apart, rest-less}
 use Rattle.whole.specs.Pigeon.{pigeon}
 use Rattle.whole.specs.Sum.{sum-next, sum-end}
-use Rattle.accepted.specs.Small.{Small, small-map}
-use Rattle.size_rule.specs.Sizes.{lo-size, hi-size}
+use Rattle.accepted_laws.specs.Small.{Small, small-map}
+use Rattle.size_laws.specs.Sizes.{lo-size, hi-size}
 use lib.Count.{trailingZeros}
 use lib.IntN.{ℤ, pos, _+ℤ_}
 use lib.ListN.{length, getD, length-map}

@@ -7,10 +7,10 @@ use Rattle.rules.specs.Graph.{Graph, lin, edge}
 use Rattle.rules.specs.DominantEdge.{positive}
 use Rattle.graph.specs.Held.{held}
 use Rattle.rules.specs.Size.{Within}
-use Rattle.accepted.specs.Small.{Small}
+use Rattle.accepted_laws.specs.Small.{Small}
 use Rattle.graph.specs.Small.{dropped-within}
-use Rattle.size_rule.specs.Sizes.{neg-size}
-use Rattle.size_rule.specs.SumSizes.{taken-size}
+use Rattle.size_laws.specs.Sizes.{neg-size}
+use Rattle.size_laws.specs.SumSizes.{taken-size}
 use lib.IntN.{ℤ, pos, negℤ, _+ℤ_}
 use lib.ListN.{getD}
 use lib.Seq.{getD-set-other}

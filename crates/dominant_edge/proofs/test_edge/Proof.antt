@@ -2,7 +2,7 @@ use Rattle.dominant_edge.specs.Answer.{verdictOf, testOf}
 use Rattle.dominant_edge.specs.declared.Test.{Test}
 use Rattle.whole.specs.Ints.{rd}
 use Rattle.whole.specs.Fits.{fit}
-use Rattle.size_rule.specs.Sizes.{add-size, sub-size}
+use Rattle.size_laws.specs.Sizes.{add-size, sub-size}
 use native.Mathlib.Omega.{arith}
 use lib.IntN.{ℤ, pos, _+ℤ_, _-ℤ_}
 use lib.Signed.{ltZ}

@@ -4,7 +4,7 @@ use Rattle.whole.specs.Masks.{these, these-end as ended, rest-less}
 use Rattle.rules.specs.DominantEdge.{turn}
 use Rattle.rules.specs.Graph.{Graph, graph, addEdge}
 use Rattle.graph.specs.HeldLaws.{linear-gain, edge-gain}
-use Rattle.size_rule.specs.Sizes.{neg-size}
+use Rattle.size_laws.specs.Sizes.{neg-size}
 use Rattle.low_degree.proofs.Laws.{gain-fits}
 use Rattle.whole.specs.Words.{mem}
 use lib.IntN.{ℤ, pos, negℤ}

@@ -1,5 +1,5 @@
 use Rattle.graph.proofs.Laws.{terms-turn, terms-end}
-use Rattle.accepted.specs.Mass.{weight-rest}
+use Rattle.accepted_laws.specs.Mass.{weight-rest}
 use Rattle.graph.specs.Held.{Below}
 use Rattle.graph.specs.Shows.{Shows}
 use Rattle.rules.specs.Objective.{weightOf}

@@ -1,6 +1,6 @@
 use Rattle.graph.specs.declared.Frame.{Frame}
 use Rattle.rules.specs.Fixing as rule
-use Rattle.accepted.specs.Mass.{mass}
+use Rattle.accepted_laws.specs.Mass.{mass}
 use Rattle.graph.proofs.Fixing.{fix-zero, fix-room, fix-sum, fix-one}
 use Rattle.graph.proofs.Laws.{mass-fits}
 use Rattle.graph.specs.Held.{held, withConstant}

@@ -1,7 +1,7 @@
 use Rattle.graph.proofs.Laws.{fix-more, fix-same, fix-end}
 use Rattle.graph.specs.Held.{held}
 use Rattle.graph.specs.Shows.{Shows}
-use Rattle.accepted.specs.Mass.{mass}
+use Rattle.accepted_laws.specs.Mass.{mass}
 use Rattle.rules.specs.Fixing.{fixAll}
 use lib.ListN.{length, drop}
 use denote.Ref.{now}

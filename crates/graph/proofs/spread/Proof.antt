@@ -1,7 +1,7 @@
 use native.Mathlib.Nat.{sub-zero}
 use Rattle.graph.specs.HeldLaws.{linear-gain}
 use Rattle.graph.proofs.Laws.{gain-fits, spread-more, spread-same, spread-end}
-use Rattle.accepted.specs.Mass.{weight-gain, weight-rest}
+use Rattle.accepted_laws.specs.Mass.{weight-gain, weight-rest}
 use Rattle.rules.specs.Objective.{weightOf}
 use Rattle.rules.specs.Fixing as rule
 use Rattle.rules.specs.Graph.{Graph, graph, edge}

@@ -3,8 +3,8 @@ use Rattle.low_degree.specs.Table.{stepFrom}
 use Rattle.low_degree.specs.TableLaws.{degree-few, table-asks, table-gives, step-table}
 use Rattle.graph.specs.Held.{held}
 use Rattle.graph.specs.NearLaws.{near-below, near-inside}
-use Rattle.accepted.specs.Small.{Small, small-more}
-use Rattle.size_rule.specs.SumSizes.{tees-three}
+use Rattle.accepted_laws.specs.Small.{Small, small-more}
+use Rattle.size_laws.specs.SumSizes.{tees-three}
 use Rattle.graph.specs.Small.{dropped-within}
 use Rattle.rules.specs.Graph.{Graph}
 use Rattle.rules.specs.Eliminate.{delta, tee}

@@ -5,7 +5,7 @@ use denote.Ref.{now}
 use Rattle.rules.specs.Objective.{Objective, objective}
 use Rattle.rules.specs.Graph.{noEdges}
 use Rattle.rules.specs.Run as rule
-use Rattle.accepted.specs.Accept.{Fit, fit-any}
+use Rattle.accepted_laws.specs.Accept.{Fit, fit-any}
 use Rattle.graph.specs.Held.{held, noLinear}
 use Rattle.graph.specs.Shows.{Shows, noMasks}
 use Rattle.state.specs.Holds.{Lent, lent}

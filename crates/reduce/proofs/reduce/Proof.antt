@@ -2,7 +2,7 @@ use mathlib.Core.Path.{sym, _∙_}
 use borrow.Author.Needs.{needs}
 use denote.Ref.{now}
 use Rattle.rules.specs.Objective.{objective}
-use Rattle.accepted.specs.Accept.{accept}
+use Rattle.accepted_laws.specs.Accept.{accept}
 use Rattle.reduce.specs.GivesLaws.{gives-refused, gives-done}
 use Rattle.reduce.proofs.reduce.Statement.{statement}
 use Rattle.reduce.proofs.reduce.Tie as tie

@@ -9,7 +9,7 @@ use denote.Ref.{now}
 use borrow.Author.Needs.{needs, sfits-of}
 use Rattle.whole.specs.Ints.{rd}
 use Rattle.rules.specs.Objective.{weightOf}
-use Rattle.accepted.specs.Mass.{weight-rest}
+use Rattle.accepted_laws.specs.Mass.{weight-rest}
 use Rattle.refusal.proofs.Laws.{weight-end}
 use Rattle.refusal.proofs.weigh.Statement.{statement}
 use Rattle.refusal.proofs.weigh.Tie as tie

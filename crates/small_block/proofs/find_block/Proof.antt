@@ -5,7 +5,7 @@ use Prim.Native.Nat.{ℕ}
 use denote.Ref.{now}
 use Rattle.rules.specs.Graph.{actives}
 use Rattle.rules.specs.SmallBlock.{search as searched, findBlock}
-use Rattle.meaning.specs.Growth.{Network}
+use Rattle.cost_laws.specs.Growth.{Network}
 use Rattle.small_block.specs.Tables.{tables}
 use Rattle.small_block.proofs.find_block.Statement.{statement}
 use Rattle.small_block.proofs.find_block.Tie as tie

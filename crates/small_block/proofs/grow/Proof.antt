@@ -8,7 +8,7 @@ use lib.ListN.{length, getD, take, length-append}
 use lib.Seq.{length-take-le, getD-take}
 use lib.Bits.{bitAnd, bitOr, bitXor}
 use Rattle.whole.specs.Words.{mem, bit}
-use Rattle.meaning.specs.Growth.{begins}
+use Rattle.cost_laws.specs.Growth.{begins}
 use Rattle.whole.specs.Members.{mem-append, apart-at}
 use Rattle.whole.specs.Masks.{bit-or, bit-single, these}
 use denote.Ref.{now}

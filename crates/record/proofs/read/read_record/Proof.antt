@@ -4,7 +4,7 @@ use mathlib.Core.Bool.{not}
 use borrow.Author.Tests.{not-true, not-false}
 use Rattle.rules.specs.Record.{broken}
 use Rattle.rules.specs.Refuse.{readRefusal}
-use Rattle.accepted.specs.Rows.{row-hit, row-skip, row-none}
+use Rattle.accepted_laws.specs.Rows.{row-hit, row-skip, row-none}
 use Rattle.record.proofs.Rows.{zeros-wrong, record-wrong, no-reading, one-reading}
 use Rattle.record.proofs.read.read_record.Statement.{statement}
 use Rattle.record.proofs.read.read_record.Tie as tie

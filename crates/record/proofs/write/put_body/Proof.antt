@@ -5,7 +5,7 @@ use mir.Syntax.{w64}
 use mir.Val.{SFits}
 use Rattle.whole.specs.Ints.{rd}
 use Rattle.rules.specs.Record.{twos}
-use Rattle.roundtrip.specs.Fields.{Held}
+use Rattle.record_laws.specs.Fields.{Held}
 use Rattle.whole.specs.Lists.{length-mapped}
 use Rattle.record.proofs.Fields.{put-all}
 use Rattle.record.proofs.write.put_body.Statement.{statement}

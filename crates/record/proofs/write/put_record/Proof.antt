@@ -5,7 +5,7 @@ use borrow.Author.Needs.{needs}
 use denote.Ref.{now}
 use lib.ListN.{take}
 use Rattle.rules.specs.Record.{sealed, blockOf}
-use Rattle.roundtrip.specs.Fields.{Held}
+use Rattle.record_laws.specs.Fields.{Held}
 use Rattle.whole.specs.Lists.{length-mapped}
 use Rattle.record.proofs.Fields.{take-body}
 use Rattle.record.proofs.write.put_record.Statement.{statement}

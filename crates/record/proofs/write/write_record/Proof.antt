@@ -1,7 +1,7 @@
 use mathlib.Core.Path.{sym, _∙_}
 use borrow.Author.Needs.{needs}
 use Rattle.rules.specs.Refuse.{writeRefusal}
-use Rattle.accepted.specs.Rows.{row-hit, row-skip, row-none}
+use Rattle.accepted_laws.specs.Rows.{row-hit, row-skip, row-none}
 use Rattle.record.proofs.Rows.{kept-block, done-block}
 use Rattle.record.proofs.write.write_record.Statement.{statement}
 use Rattle.record.proofs.write.write_record.Tie as tie

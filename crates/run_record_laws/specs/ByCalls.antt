@@ -1,0 +1,154 @@
+-- Demand 3 through the calls: the record of a reduction is not refused, and grows back and projects as the run's own states and steps do.
+-- Assumes nothing.
+use mathlib.Core.Path.{_≡_, refl, sym, ap, ap₂, _∙_, subst}
+use mathlib.Core.Bool.{Bool, true, false, not}
+use mathlib.Core.List.{List, [], _∷_}
+use Prim.Native.Nat.{ℕ, suc, _-_, _<_, _≤_}
+use native.Mathlib.Omega.{arith}
+use lib.Dec.{eqb}
+use lib.ListN.{length, getD, take, replicate, length-append, length-replicate}
+use lib.IntN.{ℤ}
+use lib.Signed.{_≤ℤ_}
+use borrow.Author.Tests.{le-ltb}
+use Rattle.whole.specs.Words.{some, oneOf}
+use Rattle.whole.specs.Parts.{natAbs-parts}
+use Rattle.whole.specs.Tests.{not-on, or-none, eqb-same}
+use Rattle.whole.specs.Lists.{past}
+use Rattle.rules.specs.Objective.{Objective}
+use Rattle.rules.specs.Outcome.{outcomeOf, outcome}
+use Rattle.rules.specs.Back.{growBack, project, remainingOf}
+use Rattle.rules.specs.Eliminate as rule
+use Rattle.rules.specs.Record.{recordOf, stepsOf, statesOf, sound}
+use Rattle.rules.specs.Refuse.{firstRow, over, reduceRefusal, growRefusal, projectRefusal}
+use Rattle.rules.specs.Call.{unless, reduction, reported, refused, linearAfter, edgesAfter, planAfter, answerAfter}
+use Rattle.rules.specs.declared.Reduction.{Reduction}
+use Rattle.rules.specs.declared.Record.{Record}
+use Rattle.accepted_laws.specs.Accept.{Fit, Accepted, accept}
+use Rattle.sound_laws.specs.SoundStart.{statesFrom}
+use Rattle.size_laws.specs.RunWithin.{ended-within}
+use Rattle.demand_laws.specs.Demands.{Values, FullPlan, Answer, costOfPlan, reducedCost, costOfAnswer, grownBack, projection, reply, ByCalls}
+use Rattle.demand_laws.specs.RunEnds.{endGraph, endSteps, end-states, end-taken, start-state, shown-remaining}
+use Rattle.demand_laws.specs.Theorems.{first-half, second-half}
+use Rattle.record_laws.specs.Steps.{steps-of-record}
+use Rattle.run_record_laws.specs.RunRecord.{steps-narrow, record-sound}
+use Rattle.accepted_laws.specs.Rows.{row-skip, row-none}
+
+-- ---- the run's record
+module _ (o : Objective) (fit : Fit o) where
+  pub run-record-sound : sound (recordOf (o .n) (outcome o .constant) (outcome o .states) (outcome o .steps)) ≡ true
+  unfolding outcome outcomeOf
+  run-record-sound =
+      subst (λ (ss : List ℕ). sound (recordOf (o .n) (endGraph o .constant) ss (endSteps o)) ≡ true) (sym (end-states o fit))
+      (record-sound (o .n) (endGraph o .constant) (statesFrom (o .n) (o .fixings)) (endSteps o) (fit .small) long first
+      (λ i l. past (o .fixings) 0 (64 - o .n) i (omega (arith, fit .fixings))) (end-taken o fit)
+      (omega (arith, natAbs-parts (endGraph o .constant), ended-within o fit .constant)))
+    where
+      long : length (statesFrom (o .n) (o .fixings)) ≡ 64
+      long = omega (arith, length-append (o .fixings) (replicate {A = ℕ} (64 - o .n) 0), length-replicate {A = ℕ} (64 - o .n) 0, fit .fixings, fit .small)
+
+      first : (i : ℕ) → i < o .n → getD (statesFrom (o .n) (o .fixings)) i 0 ≤ 2
+      first i l = rw (start-state o fit i l) (fit .bytes i (omega (arith, fit .fixings)))
+
+  -- the steps read from it are the run's
+  pub run-steps-held : stepsOf (recordOf (o .n) (outcome o .constant) (outcome o .states) (outcome o .steps)) ≡ outcome o .steps
+  unfolding outcome outcomeOf
+  run-steps-held = steps-of-record (o .n) (endGraph o .constant) (endGraph o .states) (endSteps o)
+      (steps-narrow (o .n) (statesFrom (o .n) (o .fixings)) (endSteps o) (end-taken o fit))
+
+-- ---- rows that do not hold
+pub no-row : {t : Bool} (k : ℕ) (rows : List (ℕ × Bool)) → t ≡ false → firstRow ((k, t) ∷ rows) ≡ firstRow rows
+no-row {t} k rows h = sym (row-skip k t rows h refl)
+
+pub none-left : firstRow [] ≡ 0
+none-left = sym row-none
+
+no-test : {s t : Bool} → s ≡ false → t ≡ false → oneOf (s ∷ t ∷ []) ≡ false
+unfolding oneOf
+no-test p q = or-none p (or-none q refl)
+
+all-bits : (xs : List ℕ) → ((i : ℕ) → getD xs i 0 ≤ 1) → some (over 1) xs ≡ false
+unfolding some
+all-bits [] h = refl
+all-bits (x ∷ xs) h = or-none (le-ltb 1 x (h 0)) (all-bits xs (λ i. h (suc i)))
+
+bytes-fine : (k n : ℕ) (xs out : List ℕ) → Values k xs → length out ≡ n
+    → firstRow ((7, oneOf (not (eqb (length xs) k) ∷ not (eqb (length out) n) ∷ [])) ∷ (8, some (over 1) xs) ∷ []) ≡ 0
+bytes-fine k n xs out v h = no-row 7 ((8, some (over 1) xs) ∷ []) (no-test (eqb-same (length xs) k (v .long)) (eqb-same (length out) n h)) ∙ no-row 8 [] (all-bits xs (v .bits)) ∙ none-left
+
+-- ---- growing back and projecting by the record
+module _ (o : Objective) (fit : Fit o) where
+  abbrev pub made : Record
+  made = recordOf (o .n) (outcome o .constant) (outcome o .states) (outcome o .steps)
+
+  remaining-held : length (remainingOf (statesOf (recordOf (o .n) (outcome o .constant) (outcome o .states) (outcome o .steps)))) ≡ length (outcome o .remaining)
+  unfolding outcome outcomeOf statesOf
+  remaining-held = ap length (shown-remaining o fit)
+
+  pub plan-is : (answer out : List ℕ) → Answer o answer → length out ≡ o .n
+      → planAfter (recordOf (o .n) (outcome o .constant) (outcome o .states) (outcome o .steps)) answer out ≡ grownBack o answer
+  unfolding planAfter growRefusal statesOf
+  plan-is answer out a h =
+      ap (λ (k : ℕ). unless k (growBack (take (o .n) (outcome o .states)) (stepsOf made) answer) out)
+      (no-row 12 _ (not-on (run-record-sound o fit)) ∙ bytes-fine _ (o .n) answer out (record { long = a .long ∙ sym remaining-held; bits = a .bits }) h)
+      ∙ ap (λ (ss : List rule.Step). growBack (take (o .n) (outcome o .states)) ss answer) (run-steps-held o fit)
+
+  pub answer-is : (plan out : List ℕ) → Values (o .n) plan → length out ≡ o .n
+      → answerAfter (recordOf (o .n) (outcome o .constant) (outcome o .states) (outcome o .steps)) plan out ≡ project (take (o .n) (outcome o .states)) plan
+  unfolding answerAfter projectRefusal statesOf
+  answer-is plan out v h =
+      ap (λ (k : ℕ). unless k (project (take (o .n) (outcome o .states)) plan) out)
+      (no-row 12 _ (not-on (run-record-sound o fit)) ∙ bytes-fine (o .n) (o .n) plan out v h)
+
+-- ---- through the calls
+module _ (o : Objective) (l e : List ℤ) (accepted : reduceRefusal o (length l) (length e) ≡ 0) where
+  whole : Accepted o (length l) (length e)
+  whole = accept o (length l) (length e) accepted
+
+  accepted-lengths : reduceRefusal o 64 4096 ≡ 0
+  accepted-lengths = ap₂ (reduceRefusal o) (sym (whole .outLinear)) (sym (whole .outEdges)) ∙ accepted
+
+  pub reply-is : reply o l e ≡ reported (o .n) (outcome o)
+  unfolding reduction
+  reply-is = ap (λ (k : ℕ). unless k (reported (o .n) (outcome o)) (refused k)) accepted
+
+  linear-is : linearAfter o l e ≡ outcome o .linear
+  unfolding linearAfter
+  linear-is = ap (λ (k : ℕ). unless k (outcome o .linear) l) accepted
+
+  edges-is : edgesAfter o l e ≡ outcome o .edges
+  unfolding edgesAfter
+  edges-is = ap (λ (k : ℕ). unless k (outcome o .edges) e) accepted
+
+  -- both halves, of a reply r and outputs a and w
+  abbrev Grows : Reduction → List ℤ → List ℤ → Type 0
+  Grows r a w =
+      (answer out : List ℕ) → Values (r .counts .remaining) answer → length out ≡ o .n
+      → FullPlan o (planAfter (r .«record») answer out) × (costOfPlan o (planAfter (r .«record») answer out) ≡ reducedCost (r .«record» .constant) a w answer)
+
+  abbrev Projects : Reduction → Type 0
+  Projects r =
+      (plan out out′ : List ℕ) → FullPlan o plan → length out ≡ o .n → length out′ ≡ o .n
+      → costOfPlan o (planAfter (r .«record») (take (r .counts .remaining) (answerAfter (r .«record») plan out)) out′) ≤ℤ costOfPlan o plan
+
+  count-is : outcome o .counts .remaining ≡ length (outcome o .remaining)
+  unfolding outcome outcomeOf
+  count-is = refl
+
+  reported-grows : Grows (reported (o .n) (outcome o)) (outcome o .linear) (outcome o .edges)
+  reported-grows answer out v h =
+      let a : Answer o answer = subst (λ (k : ℕ). Values k answer) count-is v in
+      subst (λ (plan : List ℕ). FullPlan o plan × (costOfPlan o plan ≡ costOfAnswer o answer)) (sym (plan-is o (whole .fit) answer out a h)) (first-half o accepted-lengths answer a)
+
+  reported-projects : Projects (reported (o .n) (outcome o))
+  reported-projects plan out out′ p h h′ =
+      let q = second-half o accepted-lengths plan p in
+      let same : take (outcome o .counts .remaining) (answerAfter (made o (whole .fit)) plan out) ≡ projection o plan =
+      ap₂ (λ (k : ℕ) (xs : List ℕ). take k xs) count-is (answer-is o (whole .fit) plan out (p .values) h) in
+      subst (λ (answer : List ℕ). costOfPlan o (planAfter (made o (whole .fit)) answer out′) ≤ℤ costOfPlan o plan) (sym same)
+      (subst (λ (full : List ℕ). costOfPlan o full ≤ℤ costOfPlan o plan) (sym (plan-is o (whole .fit) (projection o plan) out′ (q .0) h′)) (q .1))
+
+  pub by-calls : ByCalls o l e
+  by-calls = record {
+    grown = subst (λ (r : Reduction). Grows r (linearAfter o l e) (edgesAfter o l e)) (sym reply-is) (rw (linear-is, edges-is) reported-grows);
+    projected = subst Projects (sym reply-is) reported-projects;
+  }
