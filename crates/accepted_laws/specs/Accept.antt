@@ -1,18 +1,18 @@
 -- What is known of an objective that is not refused.
 -- Assumes nothing.
-use mathlib.Core.Path.{_≡_}
+use mathlib.Core.Path.{_≡_, refl}
 use mathlib.Core.Bool.{Bool, false}
-use mathlib.Core.List.{List, [], _∷_}
+use mathlib.Core.List.{List}
 use Prim.Native.Nat.{ℕ, _+_, _<_, _≤_}
-use native.Mathlib.Omega.{arith}
 use lib.Dec.{ltb, leb}
 use lib.ListN.{length, getD}
 use borrow.Author.Tests.{ltb-false, leb-false}
-use Rattle.whole.specs.Words.{some, oneOf}
-use Rattle.whole.specs.Tests.{or-false, row-off, same-eqb}
+use Rattle.whole.specs.Words.{some}
+use Rattle.whole.specs.Tests.{same-eqb}
 use Rattle.whole.specs.Members.{some-false, in-at}
 use Rattle.rules.specs.Objective.{Objective, objective, weightOf}
-use Rattle.rules.specs.Refuse.{firstRow, badLengths, badIndex, badFixing, tooHeavy, reduceRefusal}
+use Rattle.rules.specs.Refuse.{firstRow, badLengths, badIndex, badLent, badFixing, tooHeavy, reduceRows, reduceRefusal}
+use Rattle.accepted_laws.specs.Rows.{rows-off, tests-off}
 
 -- of the objective alone
 pub record Fit (o : Objective) : Type 0 where
@@ -48,54 +48,38 @@ fit-any o sw b f = record {
   light = f .light;
 }
 
--- no row holds: each test, as a tuple
-abbrev NoRow : List (ℕ × Bool) → Type 0
-NoRow [] = Unit
-NoRow (r ∷ rs) = (r .1 ≡ false) × NoRow rs
-
--- no row has the number 0
-abbrev Numbered : List (ℕ × Bool) → Type 0
-Numbered [] = Unit
-Numbered (r ∷ rs) = (r .0 ≡ 0 → ⊥) × Numbered rs
-
-rows : (rs : List (ℕ × Bool)) → Numbered rs → firstRow rs ≡ 0 → NoRow rs
-unfolding firstRow
-rows [] n e = tt
-rows (r ∷ rs) n e = let h = row-off (r .0) (r .1) (firstRow rs) (n .0) e in (h .0, rows rs (n .1) (h .1))
-
-abbrev NoTest : List Bool → Type 0
-NoTest [] = Unit
-NoTest (t ∷ ts) = (t ≡ false) × NoTest ts
-
-tests : (ts : List Bool) → oneOf ts ≡ false → NoTest ts
-unfolding oneOf
-tests [] e = tt
-tests (t ∷ ts) e = (or-false t (oneOf ts) e .0, tests ts (or-false t (oneOf ts) e .1))
-
 -- no element passes
 none : (p : ℕ → Bool) (l : List ℕ) → some p l ≡ false → (k : ℕ) → k < length l → p (getD l k 0) ≡ false
 none p l e k h = some-false p (getD l k 0) l e (in-at l k h)
 
+-- no row of the table holds, nor another length of the caller's
+pub accept-rows : (o : Objective) (l e : ℕ) (others : Bool) → firstRow (reduceRows o l e others) ≡ 0 → Accepted o l e × (others ≡ false)
+unfolding badLengths badIndex badLent badFixing tooHeavy
+accept-rows o l e others h =
+    let r = rows-off (reduceRows o l e others) refl h in
+    let t = tests-off _ (r .1 .0) in
+    let u = tests-off _ (t .1 .1 .1 .1 .0) in
+    let i = tests-off _ (r .1 .1 .0) in (
+      record {
+        fit = record {
+          small = ltb-false 64 (o .n) (r .0);
+          weights = same-eqb (length (o .weights)) (o .n) (t .0);
+          fixings = same-eqb (length (o .fixings)) (o .n) (u .0);
+          seconds = same-eqb (length (o .seconds)) (length (o .firsts)) (t .1 .0);
+          termWeights = same-eqb (length (o .termWeights)) (length (o .firsts)) (t .1 .1 .0);
+          few = ltb-false 4096 (length (o .firsts)) (t .1 .1 .1 .0);
+          firstBelow = λ k s. leb-false (o .n) (getD (o .firsts) k 0) (none (leb (o .n)) (o .firsts) (i .0) k s);
+          secondBelow = λ k s. leb-false (o .n) (getD (o .seconds) k 0) (none (leb (o .n)) (o .seconds) (i .1 .0) k s);
+          bytes = λ k s. ltb-false 2 (getD (o .fixings) k 0) (none (ltb 2) (o .fixings) (r .1 .1 .1 .0) k s);
+          light = ltb-false 1099511627776 (weightOf (o .weights) + weightOf (o .termWeights)) (r .1 .1 .1 .1 .1 .0);
+        };
+        outLinear = same-eqb l 64 (u .1 .0);
+        outEdges = same-eqb e 4096 (u .1 .1 .0);
+        switches = ltb-false 15 (o .switches) (r .1 .1 .1 .1 .0);
+      },
+      u .1 .1 .1 .0,
+    )
+
 pub accept : (o : Objective) (l e : ℕ) → reduceRefusal o l e ≡ 0 → Accepted o l e
-unfolding reduceRefusal badLengths badIndex badFixing tooHeavy
-accept o l e h =
-    let r = rows _ ((λ z. omega arith), ((λ z. omega arith), ((λ z. omega arith), ((λ z. omega arith), ((λ z. omega arith), ((λ z. omega arith), tt)))))) h in
-    let t = tests _ (r .1 .0) in
-    let i = tests _ (r .1 .1 .0) in
-    record {
-      fit = record {
-        small = ltb-false 64 (o .n) (r .0);
-        weights = same-eqb (length (o .weights)) (o .n) (t .0);
-        fixings = same-eqb (length (o .fixings)) (o .n) (t .1 .0);
-        seconds = same-eqb (length (o .seconds)) (length (o .firsts)) (t .1 .1 .0);
-        termWeights = same-eqb (length (o .termWeights)) (length (o .firsts)) (t .1 .1 .1 .0);
-        few = ltb-false 4096 (length (o .firsts)) (t .1 .1 .1 .1 .0);
-        firstBelow = λ k s. leb-false (o .n) (getD (o .firsts) k 0) (none (leb (o .n)) (o .firsts) (i .0) k s);
-        secondBelow = λ k s. leb-false (o .n) (getD (o .seconds) k 0) (none (leb (o .n)) (o .seconds) (i .1 .0) k s);
-        bytes = λ k s. ltb-false 2 (getD (o .fixings) k 0) (none (ltb 2) (o .fixings) (r .1 .1 .1 .0) k s);
-        light = ltb-false 1099511627776 (weightOf (o .weights) + weightOf (o .termWeights)) (r .1 .1 .1 .1 .1 .0);
-      };
-      outLinear = same-eqb l 64 (t .1 .1 .1 .1 .1 .0);
-      outEdges = same-eqb e 4096 (t .1 .1 .1 .1 .1 .1 .0);
-      switches = ltb-false 15 (o .switches) (r .1 .1 .1 .1 .0);
-    }
+unfolding reduceRefusal
+accept o l e h = accept-rows o l e false h .0

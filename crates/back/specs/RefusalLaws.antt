@@ -1,46 +1,18 @@
 -- The refusals of a call on an unbroken record, and of a call on a block that is read.
 -- Assumes nothing.
 use mathlib.Core.Path.{_≡_, refl, sym, ap, _∙_, subst}
-use mathlib.Core.Bool.{Bool, true, false, cond, not}
-use mathlib.Core.List.{List, [], _∷_, _++_}
+use mathlib.Core.Bool.{Bool, true, false, not}
+use mathlib.Core.List.{List, _∷_, _++_}
 use Prim.Native.Nat.{ℕ, zero, suc}
 use native.Mathlib.Omega.{arith}
-use lib.Dec.{eqb}
-use lib.ListN.{length, getD}
-use borrow.Author.Tests.{eqb-true}
-use Rattle.whole.specs.Words.{some, oneOf}
-use Rattle.rules.specs.Record.{edition, checkRight, broken, bodyBroken, recordIn, noRecord}
-use Rattle.rules.specs.Refuse.{firstRow, notLong, bytesRows, blockRows, readRefusal, over}
+use Rattle.rules.specs.Record.{broken, recordIn, noRecord}
+use Rattle.rules.specs.Refuse.{firstRow, blockRows, readRefusal}
 use Rattle.rules.specs.Call.{unless, reading}
 use Rattle.rules.specs.declared.Record.{Record}
 use Rattle.rules.specs.declared.Reading.{Reading}
+use Rattle.accepted_laws.specs.Rows.{no-row, read-then, block-passed}
 use Rattle.record_laws.specs.RoundTrip.{accept}
 use Rattle.back.specs.Calls.{Answers}
-
--- no row of the bytes holds: they are as long as they have to be, and so is the output
-pub bytes-pass : (r : Record) (long : ℕ) (bytes : List ℕ) (out : ℕ) → firstRow (bytesRows r long bytes out) ≡ 0 → (length bytes ≡ long) × (out ≡ r .n)
-unfolding firstRow oneOf
-bytes-pass r long bytes out e = by (eqb (length bytes) long) (eqb out (r .n)) refl refl e
-  where
-    by : (s t : Bool) → eqb (length bytes) long ≡ s → eqb out (r .n) ≡ t → cond (oneOf (not s ∷ not t ∷ [])) 7 (firstRow ((8, some (over 1) bytes) ∷ [])) ≡ 0 → (length bytes ≡ long) × (out ≡ r .n)
-    by true true p q f = (eqb-true _ _ p, eqb-true _ _ q)
-    by true false p q f = absurd (omega arith)
-    by false t p q f = absurd (omega arith)
-
--- the four rows of a block, and what those below them give
-abbrev four : Bool → Bool → Bool → Bool → ℕ → ℕ
-four s t u v k = cond s 9 (cond t 10 (cond u 11 (cond v 12 k)))
-
-four-first : (s t u v : Bool) (k : ℕ) → four s t u v k ≡ unless (four s t u v 0) k (four s t u v 0)
-four-first true t u v k = refl
-four-first false true u v k = refl
-four-first false false true v k = refl
-four-first false false false true k = refl
-four-first false false false false k = refl
-
-pub read-then : (b : List ℕ) (rows : List (ℕ × Bool)) → firstRow (blockRows b ++ rows) ≡ unless (readRefusal b) (firstRow rows) (readRefusal b)
-unfolding readRefusal firstRow
-read-then b rows = four-first (notLong b 512) (not (checkRight b)) (not (eqb (getD b 0 0) edition)) (bodyBroken b) (firstRow rows)
 
 -- ---- what was read of a block
 module _ (b : List ℕ) (read : Reading) (is : read ≡ reading b) where
@@ -73,8 +45,7 @@ module _ (rows : Record → List (ℕ × Bool)) (x : Record → List ℕ) (y : L
     of-broken e = rw e (refused 12 12 (x r) y refl (λ z. omega arith))
 
     pub of-unbroken : broken r ≡ false → {number : ℕ} {exit : List ℕ} → Answers (firstRow (rows r)) (x r) y number exit → Answers (firstRow ((12, broken r) ∷ rows r)) (x r) y number exit
-    unfolding firstRow
-    of-unbroken e g = rw e g
+    of-unbroken e g = rw (no-row 12 (rows r) e) g
 
   module _ (b : List ℕ) (read : Reading) (is : read ≡ reading b) where
     pub of-unread : (read .answer ≡ 0 → ⊥) → Answers (firstRow (blockRows b ++ rows (recordIn b))) (x (recordIn b)) y (read .answer) y
@@ -86,5 +57,4 @@ module _ (rows : Record → List (ℕ × Bool)) (x : Record → List ℕ) (y : L
 
     pub of-read : read .answer ≡ 0 → {number : ℕ} {exit : List ℕ} → Answers (firstRow (rows (read .«record»))) (x (read .«record»)) y number exit → Answers (firstRow (blockRows b ++ rows (recordIn b))) (x (recordIn b)) y number exit
     of-read z {number} {exit} g =
-        let k : readRefusal b ≡ 0 = sym (read-number b read is) ∙ z in
-        rw (read-then b (rows (recordIn b)), k) (subst (λ (r : Record). Answers (firstRow (rows r)) (x r) y number exit) (read-record b read is z) g)
+        rw (block-passed b (rows (recordIn b)) (sym (read-number b read is) ∙ z)) (subst (λ (r : Record). Answers (firstRow (rows r)) (x r) y number exit) (read-record b read is z) g)

@@ -7,10 +7,10 @@ use rules::Record;
 pub fn bytes_refusal(record: Record, long: usize, bytes: &[u8], out: usize) -> u8
     ensures { λ r. ⌜ r ≡ firstRow (bytesRows «record» long (now (bytes .entry)) out) ⌝ }
 {
-    let lengths = rows::either(
+    let lengths = refusal::either(
         bytes.len() != long,
-        rows::either(out != record.n as usize, false),
+        refusal::either(out != record.n as usize, false),
     );
     let over = refusal::any_over(bytes, 1);
-    rows::row(7, lengths, rows::row(8, over, 0))
+    refusal::row(7, lengths, refusal::row(8, over, 0))
 }

@@ -7,6 +7,8 @@ ghost use Rattle.rules.specs.Refuse.{firstRow, answerRows};
 ghost use Rattle.rules.specs.Call.{grown};
 ghost use Rattle.back.specs.Calls.{Answers, GrownBack, GrownBackBlock};
 use crate::bytes;
+use crate::plans;
+use crate::play;
 use rules::Record;
 
 // An answer for an unbroken record.

@@ -7,6 +7,7 @@ ghost use Rattle.rules.specs.Refuse.{firstRow, planRows};
 ghost use Rattle.rules.specs.Call.{projected};
 ghost use Rattle.back.specs.Calls.{Answers, Projected, ProjectedBlock};
 use crate::bytes;
+use crate::plans;
 use rules::Record;
 
 // A full plan for an unbroken record.

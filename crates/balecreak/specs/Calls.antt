@@ -2,30 +2,22 @@
 -- Assumes nothing.
 use mathlib.Core.Path.{_≡_, sym, _∙_}
 use mathlib.Core.Bool.{not}
-use mathlib.Core.List.{List, [], _∷_}
+use mathlib.Core.List.{List, [], _∷_, _++_}
 use Prim.Native.Nat.{ℕ}
 use lib.Dec.{eqb}
 use lib.ListN.{length}
 use lib.IntN.{ℤ}
-use Rattle.whole.specs.Words.{oneOf, oneIf}
+use Rattle.whole.specs.Words.{oneIf}
 use Rattle.rules.specs.Objective.{Objective}
 use Rattle.rules.specs.Record.{recordIn, blockOf}
-use Rattle.rules.specs.Refuse.{firstRow, over, badLengths, badIndex, badFixing, tooHeavy, blockRows}
+use Rattle.rules.specs.Refuse.{firstRow, reduceRows, blockRows}
 use Rattle.rules.specs.Call.{unless, reduction, linearAfter, edgesAfter}
 use Rattle.rules.specs.declared.Reduction.{Reduction}
 use Rattle.back.specs.Calls.{Answers, one-result}
 
--- The table once more, for outputs that are l, e, b and c long: the list of counts is one of row 2's lengths, the block has a row of its own.
+-- the table, for outputs that are l, e, b and c long: the list of counts is one of row 2's lengths, the block has a row of its own
 unfoldable pub intoRefusal : Objective → ℕ → ℕ → ℕ → ℕ → ℕ
-intoRefusal o l e b c = firstRow (
-    (1, over 64 (o .n))
-    ∷ (2, oneOf (badLengths o l e ∷ not (eqb c 14) ∷ []))
-    ∷ (3, badIndex o)
-    ∷ (4, badFixing o)
-    ∷ (5, over 15 (o .switches))
-    ∷ (6, tooHeavy o)
-    ∷ (9, not (eqb b 512))
-    ∷ [])
+intoRefusal o l e b c = firstRow (reduceRows o l e (not (eqb c 14)) ++ (9, not (eqb b 512)) ∷ [])
 
 -- the counts in their order, then takes, blocks, units, and 1 for a run that is complete
 abbrev pub listed : Reduction → List ℕ

@@ -1,4 +1,3 @@
 pub mod Calls
 pub mod CopyLaws
-pub mod RowLaws
 pub mod IntoLaws

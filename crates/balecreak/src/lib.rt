@@ -1,70 +1,18 @@
 // The public calls for vendors, on numbers and slices alone: a slice goes as a pointer and a length.
 ghost use mathlib.Core.Path.{_≡_};
 ghost use lib.ListN.{length};
-ghost use Rattle.whole.specs.Words.{oneIf};
 ghost use Rattle.rules.specs.Objective.{objective};
 ghost use Rattle.rules.specs.Refuse.{readRefusal};
 ghost use Rattle.back.specs.Calls.{GrownBackBlock, ProjectedBlock};
 ghost use Rattle.balecreak.specs.Calls.{listed, ReducedInto, Copied};
-ghost use Rattle.balecreak.specs.RowLaws.{lentRefusal};
 use rules::Reduction;
-
-// The refusals that the two lengths bring, of a block b and a list of counts c long; 0 where both are right.
-fn lent_refusal(
-    n: u32,
-    weights: &[i64],
-    firsts: &[u32],
-    seconds: &[u32],
-    term_weights: &[i64],
-    fixings: &[u8],
-    switches: u32,
-    budget: u32,
-    l: usize,
-    e: usize,
-    b: usize,
-    c: usize,
-) -> u8
-    ensures { λ r. ⌜ r ≡ lentRefusal (objective n (now (weights .entry)) (now (firsts .entry)) (now (seconds .entry)) (now («term_weights» .entry)) (now (fixings .entry)) switches budget) l e b c ⌝ }
-{
-    if c != 14 {
-        return rows::row(1, n > 64, 2);
-    }
-    if b == 512 {
-        return 0;
-    }
-    let number = refusal::refusal(
-        n,
-        weights,
-        firsts,
-        seconds,
-        term_weights,
-        fixings,
-        switches,
-        budget,
-        l,
-        e,
-    );
-    if number != 0 {
-        return number;
-    }
-    9
-}
-
-fn one_if(b: bool) -> u32
-    ensures { λ r. ⌜ r ≡ oneIf b ⌝ }
-{
-    if b {
-        return 1;
-    }
-    0
-}
 
 // What a vendor's list of counts is to hold.
 fn listing(r: Reduction) -> [u32; 14]
     ensures { λ a. ⌜ a ≡ listed r ⌝ }
 {
     let c = r.counts;
-    let complete = one_if(r.complete);
+    let complete = whole::one_if(r.complete);
     [
         c.eliminated,
         c.degree_three_eliminated,
@@ -116,7 +64,7 @@ pub extern "C" fn balecreak_reduce(
     let e = edges.len();
     let b = block.len();
     let c = counts.len();
-    let lent = lent_refusal(
+    let above = refusal::refusal(
         n,
         weights,
         firsts,
@@ -127,14 +75,14 @@ pub extern "C" fn balecreak_reduce(
         budget,
         l,
         e,
-        b,
-        c,
+        c != 14,
     );
-    if lent != 0 {
-        return lent as u32;
+    let number = refusal::first_of(above, refusal::row(9, b != 512, 0));
+    if number != 0 {
+        return number as u32;
     }
-    let r = reduce::reduce(
-        n,
+    let r = reduce::accepted(
+        n as usize,
         weights,
         firsts,
         seconds,
@@ -145,9 +93,6 @@ pub extern "C" fn balecreak_reduce(
         &mut linear[..],
         &mut edges[..],
     );
-    if r.answer != 0 {
-        return r.answer as u32;
-    }
     record::write::put_record(&mut block[..], r.record);
     let list = listing(r);
     put_counts(&mut counts[..], list);

@@ -10,7 +10,6 @@ ghost use Rattle.reduce.specs.Gives.{Done, Gives, recordFrom, countsFrom
 use rules::Counts;
 use rules::Record;
 use rules::Reduction;
-use rules::Step;
 use run::Ended;
 use state::State;
 use steps::Steps;
@@ -19,21 +18,7 @@ use steps::Steps;
 fn refusal_of(number: u8) -> Reduction
     ensures { λ r. ⌜ r ≡ refused number ⌝ }
 {
-    let none = Step {
-        decision: 0,
-        degree: 0,
-        first: 0,
-        second: 0,
-        third: 0,
-        choices: 0,
-    };
-    let record = Record {
-        n: 0,
-        count: 0,
-        constant: 0,
-        states: [0; 64],
-        steps: [none; 64],
-    };
+    let record = rules::no_record();
     let counts = Counts {
         eliminated: 0,
         degree_three_eliminated: 0,
@@ -115,7 +100,7 @@ fn report(ended: Ended, remaining: usize) -> Reduction
 }
 
 // A call that is not refused. The lent outputs are written once, at the end.
-fn accepted(
+pub fn accepted(
     n: usize,
     weights: &[i64],
     firsts: &[u32],
@@ -180,6 +165,7 @@ pub fn reduce(
         budget,
         l,
         e,
+        false,
     );
     if number != 0 {
         return refusal_of(number);

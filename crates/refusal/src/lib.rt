@@ -1,11 +1,42 @@
-// Whether a call of `reduce` is refused, and by which row of the table.
+// The refusal table of an objective: "given exactly when its row holds and no row above it does". Each test is asked.
 ghost use mathlib.Core.Path.{_≡_};
+ghost use mathlib.Core.Bool.{cond, _||_};
 ghost use mathlib.Core.List.{[], _∷_};
 ghost use Prim.Native.Nat.{_+_, _≤_, min};
 ghost use lib.Dec.{leb};
 ghost use Rattle.whole.specs.Words.{some, oneOf};
 ghost use Rattle.rules.specs.Objective.{objective, weightOf};
-ghost use Rattle.rules.specs.Refuse.{over, badLengths, reduceRefusal};
+ghost use Rattle.rules.specs.Refuse.{firstRow, over, badLengths, listRows, reduceRows};
+ghost use Rattle.rules.specs.Call.{unless};
+
+pub fn either(a: bool, b: bool) -> bool
+    ensures { λ r. ⌜ r ≡ (a || b) ⌝ }
+{
+    if a {
+        return true;
+    }
+    b
+}
+
+// A row's number where it holds, else what the rows below it give.
+pub fn row(number: u8, held: bool, below: u8) -> u8
+    ensures { λ r. ⌜ r ≡ cond held number below ⌝ }
+{
+    if held {
+        return number;
+    }
+    below
+}
+
+// What the rows above give; where none of them holds, what those below give.
+pub fn first_of(above: u8, below: u8) -> u8
+    ensures { λ r. ⌜ r ≡ unless above below above ⌝ }
+{
+    if above != 0 {
+        return above;
+    }
+    below
+}
 
 // Is one of these n or more?
 fn any_from(list: &[u32], n: u32) -> bool
@@ -53,31 +84,25 @@ fn weigh(start: u64, w: &[i64]) -> u64
     s
 }
 
-// Row 2.
+// Row 2; `others`: another length that the caller has is wrong.
 fn bad_lengths(
     n: u32,
     weights: &[i64],
     firsts: &[u32],
     seconds: &[u32],
     term_weights: &[i64],
-    fixings: &[u8],
-    l: usize,
-    e: usize,
+    others: bool,
 ) -> bool
-    ensures { λ r. ⌜ r ≡ badLengths (objective n (now (weights .entry)) (now (firsts .entry)) (now (seconds .entry)) (now («term_weights» .entry)) (now (fixings .entry)) 0 0) l e ⌝ }
+    ensures { λ r. ⌜ r ≡ badLengths (objective n (now (weights .entry)) (now (firsts .entry)) (now (seconds .entry)) (now («term_weights» .entry)) [] 0 0) others ⌝ }
 {
     let size = n as usize;
     let terms = firsts.len();
-    let outputs = rows::either(l != 64, rows::either(e != 4096, false));
-    let lists = rows::either(
-        term_weights.len() != terms,
-        rows::either(terms > 4096, outputs),
+    let many = either(terms > 4096, either(others, false));
+    let lists = either(
+        seconds.len() != terms,
+        either(term_weights.len() != terms, many),
     );
-    let pairs = rows::either(seconds.len() != terms, lists);
-    rows::either(
-        weights.len() != size,
-        rows::either(fixings.len() != size, pairs),
-    )
+    either(weights.len() != size, lists)
 }
 
 // Row 3.
@@ -86,18 +111,34 @@ fn bad_index(n: u32, firsts: &[u32], seconds: &[u32]) -> bool
 {
     let first = any_from(firsts, n);
     let second = any_from(seconds, n);
-    rows::either(first, rows::either(second, false))
+    either(first, either(second, false))
 }
 
 // Row 6.
-fn too_heavy(weights: &[i64], term_weights: &[i64]) -> bool
+pub fn too_heavy(weights: &[i64], term_weights: &[i64]) -> bool
     ensures { λ r. ⌜ r ≡ over 1099511627776 (weightOf (now (weights .entry)) + weightOf (now («term_weights» .entry))) ⌝ }
 {
     let linear = weigh(0, weights);
     weigh(linear, term_weights) > 1099511627776
 }
 
-// The first row of the table that holds; 0: none does. Every row is asked, the last first.
+// Rows 1 to 3, which every objective has.
+pub fn list_rows(
+    n: u32,
+    weights: &[i64],
+    firsts: &[u32],
+    seconds: &[u32],
+    term_weights: &[i64],
+    others: bool,
+) -> u8
+    ensures { λ r. ⌜ r ≡ firstRow (listRows (objective n (now (weights .entry)) (now (firsts .entry)) (now (seconds .entry)) (now («term_weights» .entry)) [] 0 0) others) ⌝ }
+{
+    let three = row(3, bad_index(n, firsts, seconds), 0);
+    let lengths = bad_lengths(n, weights, firsts, seconds, term_weights, others);
+    row(1, n > 64, row(2, lengths, three))
+}
+
+// The first row of reduce's that holds; 0: none does.
 pub fn refusal(
     n: u32,
     weights: &[i64],
@@ -109,13 +150,14 @@ pub fn refusal(
     budget: u32,
     l: usize,
     e: usize,
+    others: bool,
 ) -> u8
-    ensures { λ r. ⌜ r ≡ reduceRefusal (objective n (now (weights .entry)) (now (firsts .entry)) (now (seconds .entry)) (now («term_weights» .entry)) (now (fixings .entry)) switches budget) l e ⌝ }
+    ensures { λ r. ⌜ r ≡ firstRow (reduceRows (objective n (now (weights .entry)) (now (firsts .entry)) (now (seconds .entry)) (now («term_weights» .entry)) (now (fixings .entry)) switches budget) l e others) ⌝ }
 {
-    let six = rows::row(6, too_heavy(weights, term_weights), 0);
-    let five = rows::row(5, switches > 15, six);
-    let four = rows::row(4, any_over(fixings, 2), five);
-    let three = rows::row(3, bad_index(n, firsts, seconds), four);
-    let lengths = bad_lengths(n, weights, firsts, seconds, term_weights, fixings, l, e);
-    rows::row(1, n > 64, rows::row(2, lengths, three))
+    let outputs = either(l != 64, either(e != 4096, either(others, false)));
+    let lent = either(fixings.len() != n as usize, outputs);
+    let lists = list_rows(n, weights, firsts, seconds, term_weights, lent);
+    let six = row(6, too_heavy(weights, term_weights), 0);
+    let five = row(5, switches > 15, six);
+    first_of(lists, row(4, any_over(fixings, 2), five))
 }

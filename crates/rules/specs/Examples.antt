@@ -16,7 +16,7 @@ use Rattle.rules.specs.DominantEdge.{negatives, positives, first, domina
 use Rattle.rules.specs.SmallBlock.{grow, isCut, among, overCuts, overRemoved, search, findBlock, boundary, inner, cheapest, dropAll, eliminateBlock, blockSteps}
 use Rattle.rules.specs.Run.{plus, waiting, join, orThree, way, reduced, skipped, go, takeFront, blocked, dueBlock, dueAt, run, begin, ended}
 use Rattle.rules.specs.Outcome.{linearOut, cell, edgeOut, Outcome, outcomeOf, outcome}
-use Rattle.rules.specs.Refuse.{firstRow, badLengths, badIndex, badFixing, tooHeavy, reduceRefusal}
+use Rattle.rules.specs.Refuse.{firstRow, badLengths, badIndex, badLent, badFixing, tooHeavy, reduceRefusal}
 use Rattle.rules.specs.Bytes.{bytes}
 use Rattle.rules.specs.ReadText.{digits, number, weight, more, empty, line, head, terms, last, afterFixings, afterWeights, afterHead, input}
 use Rattle.rules.specs.WriteText.{decimal, listed, listedZ, edgeLines, choicesOf, stepLine, stepLines, written, writtenRefusal}
@@ -144,5 +144,5 @@ examples-hold = refl
 -- D, from text to text, to the byte
 pub d-by-text : program (bytes "2 1 100 1\n-3 -4\n2 2\n0 1 5\n")
     ≡ bytes "constant -4\nremaining\nlinear\nstep 0 : 1 : 1 0\nstep 1 : : 1\nunits 2 complete yes\n"
-unfolding program reply digits number weight more empty line head terms last afterFixings afterWeights afterHead input decimal listed listedZ edgeLines choicesOf stepLine stepLines written writtenRefusal firstRow badLengths badIndex badFixing tooHeavy reduceRefusal weightOf oneOf from mem those some chosen bitsFrom actives neighbours addConstant addLinear addEdge clear dropTo addTerm addTerms noEdges bare graphOf spread fix fixAll start stepOf absorb eliminate plus waiting join orThree way reduced go takeFront dueBlock dueAt run begin ended linearOut cell edgeOut outcomeOf outcome
+unfolding program reply digits number weight more empty line head terms last afterFixings afterWeights afterHead input decimal listed listedZ edgeLines choicesOf stepLine stepLines written writtenRefusal firstRow badLengths badIndex badLent badFixing tooHeavy reduceRefusal weightOf oneOf from mem those some chosen bitsFrom actives neighbours addConstant addLinear addEdge clear dropTo addTerm addTerms noEdges bare graphOf spread fix fixAll start stepOf absorb eliminate plus waiting join orThree way reduced go takeFront dueBlock dueAt run begin ended linearOut cell edgeOut outcomeOf outcome
 d-by-text = refl

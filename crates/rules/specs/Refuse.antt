@@ -1,11 +1,10 @@
 -- 01, "Numbers given back when a call says no": the refusals of every public call, in the order of the table.
 -- Assumes nothing.
-use mathlib.Core.Bool.{Bool, true, false, cond, not}
+use mathlib.Core.Bool.{Bool, false, cond, not}
 use mathlib.Core.List.{List, [], _∷_, _++_}
-use Prim.Native.Nat.{ℕ, _+_}
+use Prim.Native.Nat.{ℕ}
 use lib.Dec.{ltb, leb, eqb}
 use lib.ListN.{length, getD}
-use lib.IntN.{ℤ}
 use Rattle.whole.specs.Words.{some, oneOf}
 use Rattle.rules.specs.Objective.{Objective, total}
 use Rattle.rules.specs.Record.{edition, checkRight, broken, bodyBroken, recordIn, statesOf}
@@ -23,40 +22,47 @@ over k x = ltb k x
 abbrev pub notLong : {A : Type 0} → List A → ℕ → Bool
 notLong xs k = not (eqb (length xs) k)
 
--- ---- reduce: l and e are the lengths of the linear and the edge output
--- "weight or fixing list not n long; term lists of unequal length or over 4,096; linear output not 64 long or edge output not 4,096 long"
-unfoldable pub badLengths : Objective → ℕ → ℕ → Bool
-badLengths o l e = oneOf (
+-- ---- an objective, without its fixings. `others`: another length that the caller has is wrong
+-- "weight .. list not n long; term lists of unequal length or over 4,096"
+unfoldable pub badLengths : Objective → Bool → Bool
+badLengths o others = oneOf (
     notLong (o .weights) (o .n)
-    ∷ notLong (o .fixings) (o .n)
     ∷ notLong (o .seconds) (length (o .firsts))
     ∷ notLong (o .termWeights) (length (o .firsts))
     ∷ over 4096 (length (o .firsts))
-    ∷ not (eqb l 64)
-    ∷ not (eqb e 4096)
+    ∷ others
     ∷ [])
 
 -- "a term index is n or more"
 unfoldable pub badIndex : Objective → Bool
 badIndex o = oneOf (some (leb (o .n)) (o .firsts) ∷ some (leb (o .n)) (o .seconds) ∷ [])
 
--- "a fixing byte over 2"
-unfoldable pub badFixing : Objective → Bool
-badFixing o = some (over 2) (o .fixings)
-
 -- "total at most 2^40 = 1,099,511,627,776"
 unfoldable pub tooHeavy : Objective → Bool
 tooHeavy o = over 1099511627776 (total o)
 
+-- the rows of every objective, "n over 64" the first; a caller puts its own between them and below
+abbrev pub listRows : Objective → Bool → List (ℕ × Bool)
+listRows o others = (1, over 64 (o .n)) ∷ (2, badLengths o others) ∷ (3, badIndex o) ∷ []
+
+abbrev pub weightRows : Objective → List (ℕ × Bool)
+weightRows o = (6, tooHeavy o) ∷ []
+
+-- ---- reduce: l and e are the lengths of the linear and the edge output
+-- ".. or fixing list not n long; .. linear output not 64 long or edge output not 4,096 long"
+unfoldable pub badLent : Objective → ℕ → ℕ → Bool → Bool
+badLent o l e others = oneOf (notLong (o .fixings) (o .n) ∷ not (eqb l 64) ∷ not (eqb e 4096) ∷ others ∷ [])
+
+-- "a fixing byte over 2"
+unfoldable pub badFixing : Objective → Bool
+badFixing o = some (over 2) (o .fixings)
+
+-- row 5: "a switch bit above bit 3"
+abbrev pub reduceRows : Objective → ℕ → ℕ → Bool → List (ℕ × Bool)
+reduceRows o l e others = listRows o (badLent o l e others) ++ (4, badFixing o) ∷ (5, over 15 (o .switches)) ∷ weightRows o
+
 unfoldable pub reduceRefusal : Objective → ℕ → ℕ → ℕ
-reduceRefusal o l e = firstRow (
-    (1, over 64 (o .n))
-    ∷ (2, badLengths o l e)
-    ∷ (3, badIndex o)
-    ∷ (4, badFixing o)
-    ∷ (5, over 15 (o .switches))
-    ∷ (6, tooHeavy o)
-    ∷ [])
+reduceRefusal o l e = firstRow (reduceRows o l e false)
 
 -- ---- write_record: the output is out long
 unfoldable pub writeRefusal : Record → ℕ → ℕ

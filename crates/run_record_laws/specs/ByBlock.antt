@@ -1,29 +1,30 @@
 -- Demand 3 through a record's block: what is written is read again, and grows back and projects as the record itself.
 -- Assumes nothing.
 use mathlib.Core.Path.{_≡_, sym, ap, _∙_, subst}
-use mathlib.Core.Bool.{Bool, true, false}
-use mathlib.Core.List.{List, [], _++_, map}
+use mathlib.Core.Bool.{true, false}
+use mathlib.Core.List.{List, map}
 use Prim.Native.Nat.{ℕ, _-_}
 use native.Mathlib.Omega.{arith}
-use lib.ListN.{length, getD, replicate, length-append, length-replicate, length-map}
+use lib.ListN.{length, replicate, length-append, length-replicate, length-map}
 use lib.IntN.{ℤ}
-use Rattle.whole.specs.Tests.{not-on, and-both, eqb-same}
+use Rattle.whole.specs.Tests.{not-on, eqb-same}
 use Rattle.rules.specs.Objective.{Objective}
 use Rattle.rules.specs.Outcome.{outcomeOf, outcome}
-use Rattle.rules.specs.Record.{noStep, noRecord, hold, holdAll, recordOf, recordIn, blockOf, sound, broken, edition}
-use Rattle.rules.specs.Refuse.{firstRow, blockRows, answerRows, planRows, reduceRefusal, writeRefusal, growRefusal, projectRefusal, growBlockRefusal, projectBlockRefusal}
+use Rattle.rules.specs.Record.{noStep, noRecord, hold, holdAll, recordOf, recordIn, blockOf, sound, broken}
+use Rattle.rules.specs.Refuse.{firstRow, answerRows, planRows, reduceRefusal, writeRefusal, growRefusal, projectRefusal, growBlockRefusal, projectBlockRefusal}
 use Rattle.rules.specs.Call.{unless, grown, projected, blockAfter, reading, planAfter, answerAfter, blockPlanAfter, blockAnswerAfter}
 use Rattle.rules.specs.declared.Record.{Record}
 use Rattle.rules.specs.declared.Reading.{Reading}
 use Rattle.rules.specs.declared.Reduction.{Reduction}
 use Rattle.accepted_laws.specs.Accept.{Fit, accept}
+use Rattle.accepted_laws.specs.Rows.{no-row, no-number, block-passed}
 use Rattle.sound_laws.specs.SoundStart.{statesFrom}
 use Rattle.run_laws.specs.StepLaws.{steps-few}
 use Rattle.record_laws.specs.Fields.{Held}
 use Rattle.record_laws.specs.RoundTrip as trip
 use Rattle.demand_laws.specs.Demands.{reply, ByBlock}
 use Rattle.demand_laws.specs.RunEnds.{endSteps, end-fine, end-taken}
-use Rattle.run_record_laws.specs.ByCalls.{run-record-sound, no-row, none-left, reply-is}
+use Rattle.run_record_laws.specs.ByCalls.{run-record-sound, reply-is}
 
 -- ---- of any record that is not broken
 module _ (r : Record) (h : Held r) (s : sound r ≡ true) where
@@ -33,16 +34,9 @@ module _ (r : Record) (h : Held r) (s : sound r ≡ true) where
   same : recordIn (blockOf r) ≡ r
   same = trip.read-written r h unbroken
 
-  -- no row of the table holds of its block
-  block-rows : (rows : List (ℕ × Bool)) → firstRow (blockRows (blockOf r) ++ rows) ≡ firstRow rows
-  block-rows rows =
-      let a = trip.accept (blockOf r) (trip.reads r h unbroken) in
-      no-row 9 _ (eqb-same (length (blockOf r)) 512 (a .long)) ∙ no-row 10 _ (not-on (a .right)) ∙ no-row 11 _ (eqb-same (getD (blockOf r) 0 0) edition (a .edition))
-      ∙ no-row 12 rows (not-on (and-both (a .zeros) (a .unbroken)))
-
   written-fine : (b : List ℕ) → length b ≡ 512 → writeRefusal r (length b) ≡ 0
   unfolding writeRefusal
-  written-fine b l = no-row 9 _ (eqb-same (length b) 512 l) ∙ no-row 12 [] unbroken ∙ none-left
+  written-fine b l = no-number _ (eqb-same (length b) 512 l, (unbroken, tt))
 
   block-is : (b : List ℕ) → length b ≡ 512 → blockAfter r b ≡ blockOf r
   unfolding blockAfter
@@ -59,14 +53,14 @@ module _ (r : Record) (h : Held r) (s : sound r ≡ true) where
   grown-is : (answer out : List ℕ) → blockPlanAfter (blockOf r) answer out ≡ planAfter r answer out
   unfolding blockPlanAfter planAfter growBlockRefusal growRefusal
   grown-is answer out =
-      ap (λ (k : ℕ). unless k (grown (recordIn (blockOf r)) answer) out) (block-rows (answerRows (recordIn (blockOf r)) answer (length out)))
+      ap (λ (k : ℕ). unless k (grown (recordIn (blockOf r)) answer) out) (block-passed (blockOf r) (answerRows (recordIn (blockOf r)) answer (length out)) (trip.reads r h unbroken))
       ∙ ap (λ (q : Record). unless (firstRow (answerRows q answer (length out))) (grown q answer) out) same
       ∙ sym (ap (λ (k : ℕ). unless k (grown r answer) out) (no-row 12 (answerRows r answer (length out)) unbroken))
 
   projected-is : (plan out : List ℕ) → blockAnswerAfter (blockOf r) plan out ≡ answerAfter r plan out
   unfolding blockAnswerAfter answerAfter projectBlockRefusal projectRefusal
   projected-is plan out =
-      ap (λ (k : ℕ). unless k (projected (recordIn (blockOf r)) plan) out) (block-rows (planRows (recordIn (blockOf r)) plan (length out)))
+      ap (λ (k : ℕ). unless k (projected (recordIn (blockOf r)) plan) out) (block-passed (blockOf r) (planRows (recordIn (blockOf r)) plan (length out)) (trip.reads r h unbroken))
       ∙ ap (λ (q : Record). unless (firstRow (planRows q plan (length out))) (projected q plan) out) same
       ∙ sym (ap (λ (k : ℕ). unless k (projected r plan) out) (no-row 12 (planRows r plan (length out)) unbroken))
 

@@ -1,25 +1,24 @@
 -- Demand 3 through the calls: the record of a reduction is not refused, and grows back and projects as the run's own states and steps do.
 -- Assumes nothing.
 use mathlib.Core.Path.{_≡_, refl, sym, ap, ap₂, _∙_, subst}
-use mathlib.Core.Bool.{Bool, true, false, not}
+use mathlib.Core.Bool.{true, false, not}
 use mathlib.Core.List.{List, [], _∷_}
 use Prim.Native.Nat.{ℕ, suc, _-_, _<_, _≤_}
 use native.Mathlib.Omega.{arith}
-use lib.Dec.{eqb}
 use lib.ListN.{length, getD, take, replicate, length-append, length-replicate}
 use lib.IntN.{ℤ}
 use lib.Signed.{_≤ℤ_}
 use borrow.Author.Tests.{le-ltb}
-use Rattle.whole.specs.Words.{some, oneOf}
+use Rattle.whole.specs.Words.{some}
 use Rattle.whole.specs.Parts.{natAbs-parts}
-use Rattle.whole.specs.Tests.{not-on, or-none, eqb-same}
+use Rattle.whole.specs.Tests.{not-on, or-none}
 use Rattle.whole.specs.Lists.{past}
 use Rattle.rules.specs.Objective.{Objective}
 use Rattle.rules.specs.Outcome.{outcomeOf, outcome}
 use Rattle.rules.specs.Back.{growBack, project, remainingOf}
 use Rattle.rules.specs.Eliminate as rule
 use Rattle.rules.specs.Record.{recordOf, stepsOf, statesOf, sound}
-use Rattle.rules.specs.Refuse.{firstRow, over, reduceRefusal, growRefusal, projectRefusal}
+use Rattle.rules.specs.Refuse.{over, reduceRefusal, growRefusal, projectRefusal}
 use Rattle.rules.specs.Call.{unless, reduction, reported, refused, linearAfter, edgesAfter, planAfter, answerAfter}
 use Rattle.rules.specs.declared.Reduction.{Reduction}
 use Rattle.rules.specs.declared.Record.{Record}
@@ -31,7 +30,7 @@ use Rattle.demand_laws.specs.RunEnds.{endGraph, endSteps, end-states, end-taken
 use Rattle.demand_laws.specs.Theorems.{first-half, second-half}
 use Rattle.record_laws.specs.Steps.{steps-of-record}
 use Rattle.run_record_laws.specs.RunRecord.{steps-narrow, record-sound}
-use Rattle.accepted_laws.specs.Rows.{row-skip, row-none}
+use Rattle.accepted_laws.specs.Rows.{no-row, bytes-fine}
 
 -- ---- the run's record
 module _ (o : Objective) (fit : Fit o) where
@@ -55,25 +54,10 @@ module _ (o : Objective) (fit : Fit o) where
   run-steps-held = steps-of-record (o .n) (endGraph o .constant) (endGraph o .states) (endSteps o)
       (steps-narrow (o .n) (statesFrom (o .n) (o .fixings)) (endSteps o) (end-taken o fit))
 
--- ---- rows that do not hold
-pub no-row : {t : Bool} (k : ℕ) (rows : List (ℕ × Bool)) → t ≡ false → firstRow ((k, t) ∷ rows) ≡ firstRow rows
-no-row {t} k rows h = sym (row-skip k t rows h refl)
-
-pub none-left : firstRow [] ≡ 0
-none-left = sym row-none
-
-no-test : {s t : Bool} → s ≡ false → t ≡ false → oneOf (s ∷ t ∷ []) ≡ false
-unfolding oneOf
-no-test p q = or-none p (or-none q refl)
-
 all-bits : (xs : List ℕ) → ((i : ℕ) → getD xs i 0 ≤ 1) → some (over 1) xs ≡ false
 unfolding some
 all-bits [] h = refl
 all-bits (x ∷ xs) h = or-none (le-ltb 1 x (h 0)) (all-bits xs (λ i. h (suc i)))
-
-bytes-fine : (k n : ℕ) (xs out : List ℕ) → Values k xs → length out ≡ n
-    → firstRow ((7, oneOf (not (eqb (length xs) k) ∷ not (eqb (length out) n) ∷ [])) ∷ (8, some (over 1) xs) ∷ []) ≡ 0
-bytes-fine k n xs out v h = no-row 7 ((8, some (over 1) xs) ∷ []) (no-test (eqb-same (length xs) k (v .long)) (eqb-same (length out) n h)) ∙ no-row 8 [] (all-bits xs (v .bits)) ∙ none-left
 
 -- ---- growing back and projecting by the record
 module _ (o : Objective) (fit : Fit o) where
@@ -89,7 +73,7 @@ module _ (o : Objective) (fit : Fit o) where
   unfolding planAfter growRefusal statesOf
   plan-is answer out a h =
       ap (λ (k : ℕ). unless k (growBack (take (o .n) (outcome o .states)) (stepsOf made) answer) out)
-      (no-row 12 _ (not-on (run-record-sound o fit)) ∙ bytes-fine _ (o .n) answer out (record { long = a .long ∙ sym remaining-held; bits = a .bits }) h)
+      (no-row 12 _ (not-on (run-record-sound o fit)) ∙ bytes-fine made _ answer (length out) (a .long ∙ sym remaining-held) h (all-bits answer (a .bits)))
       ∙ ap (λ (ss : List rule.Step). growBack (take (o .n) (outcome o .states)) ss answer) (run-steps-held o fit)
 
   pub answer-is : (plan out : List ℕ) → Values (o .n) plan → length out ≡ o .n
@@ -97,7 +81,7 @@ module _ (o : Objective) (fit : Fit o) where
   unfolding answerAfter projectRefusal statesOf
   answer-is plan out v h =
       ap (λ (k : ℕ). unless k (project (take (o .n) (outcome o .states)) plan) out)
-      (no-row 12 _ (not-on (run-record-sound o fit)) ∙ bytes-fine (o .n) (o .n) plan out v h)
+      (no-row 12 _ (not-on (run-record-sound o fit)) ∙ bytes-fine made (o .n) plan (length out) (v .long) h (all-bits plan (v .bits)))
 
 -- ---- through the calls
 module _ (o : Objective) (l e : List ℤ) (accepted : reduceRefusal o (length l) (length e) ≡ 0) where

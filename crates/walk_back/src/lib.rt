@@ -11,7 +11,7 @@ pub fn walk_back(steps: &[rules::Step], plan: [u8; 64]) -> [u8; 64]
     let mut k = steps.len();
     while k > 0 {
         k -= 1;
-        x = play::play_step(steps[k], x);
+        x = back::play::play_step(steps[k], x);
     }
     x
 }

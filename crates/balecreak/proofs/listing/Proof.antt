@@ -3,7 +3,7 @@ use Rattle.balecreak.proofs.listing.Statement.{statement}
 use Rattle.balecreak.proofs.listing.Tie as tie
 
 returns : tie.Need-returns
-returns c = rw (c .one-if .ensures)
+returns c = cc
 
 pub listing-spec : {M : Type 1} → statement M
 listing-spec = tie.close (tie.spec (λ c κs. search needs) returns)

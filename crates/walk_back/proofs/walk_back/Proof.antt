@@ -52,11 +52,11 @@ use Rattle.rules.specs.Record.{noStep, played}
 use Rattle.rules.specs.declared.Step.{Step}
 use Rattle.rules.proofs.Step as T
 use Rattle.rules.proofs.Step.Laws as T′
-use Rattle.play.specs.Turns.{playsBack, none-played, one-played, all-played}
-use Rattle.play.proofs.play_step as step
-use Rattle.play.proofs.play_step.Symbol as step-def
-use Rattle.play.proofs.play_step.Symbol.{name as #play·play-step}
-use Rattle.play.proofs.play_step.Met as step-thm
+use Rattle.back.specs.PlayTurns.{playsBack, none-played, one-played, all-played}
+use Rattle.back.proofs.play.play_step as step
+use Rattle.back.proofs.play.play_step.Symbol as step-def
+use Rattle.back.proofs.play.play_step.Symbol.{name as #back·play·play-step}
+use Rattle.back.proofs.play.play_step.Met as step-thm
 use Rattle.walk_back.proofs.walk_back.Key.{name as #walk_back·walk-back}
 use Rattle.walk_back.proofs.walk_back as walk-back
 use Rattle.walk_back.proofs.walk_back.Statement as stated
@@ -140,7 +140,7 @@ module _ {M : Type 1} (𝓤 : URA M) (H : Heap 𝓤) (A : Atoms 𝓤) (W : Given
     Nearer-wf : WellFounded Nearer
     Nearer-wf = InvImage·wf (λ (t : Turn). t .k) (Nat·lt-wfRel .wf)
 
-    module _ (𝓣 : Tables 𝓤 H) (known : Triple 𝓤 (𝓣 .C #play·play-step) (Played 𝓤 H A mem run)) where
+    module _ (𝓣 : Tables 𝓤 H) (known : Triple 𝓤 (𝓣 .C #back·play·play-step) (Played 𝓤 H A mem run)) where
       abbrev C : Calls 𝓤 H
       C = 𝓣 .C
 
@@ -233,7 +233,7 @@ module _ {M : Type 1} (𝓤 : URA M) (H : Heap 𝓤) (A : Atoms 𝓤) (W : Given
           first ! $ blocks ! $ loops ! 𝓣 Nearer Nearer-wf (At l₀ l₁ l₂ l₃ l₄ l₅ l₆ l₇ l₈) (λ t. turn l₀ l₁ l₂ l₃ l₄ l₅ l₆ l₇ l₈ t (ltb 0 (t .k)) refl)
           (record { k = length ys; r = plan; v = v₀; is = fine; small = omega arith; so-far = none-played ys plan }))))))))))
 
-module _ {M : Type 1} (𝓤 : URA M) (H : Heap 𝓤) (A : Atoms 𝓤) (W : Given 𝓤 H A) (mem : Memory → SProp 𝓤) (run : Routine → Fun 𝓤) (𝓣 : Tables 𝓤 H) (known : Triple 𝓤 (𝓣 .C #play·play-step) (Played 𝓤 H A mem run)) where
+module _ {M : Type 1} (𝓤 : URA M) (H : Heap 𝓤) (A : Atoms 𝓤) (W : Given 𝓤 H A) (mem : Memory → SProp 𝓤) (run : Routine → Fun 𝓤) (𝓣 : Tables 𝓤 H) (known : Triple 𝓤 (𝓣 .C #back·play·play-step) (Played 𝓤 H A mem run)) where
   steps-walk : Walks 𝓤 H A walk-back.ended stayed (WpFn 𝓤 H (𝓣 .C) (𝓣 .Λ) code.function) (walk-back.clauses 𝓤 H A mem run)
   steps-walk = walked 𝓤 H A walk-back.ended stayed (walk-back.clauses 𝓤 H A mem run) (WpFn 𝓤 H (𝓣 .C) (𝓣 .Λ) code.function) (λ κs. (slice-vals, (array-vals (uint-vals w8), tt))) (λ κs. (shr-slice-tells (named 0) (κs .0) T.the-row, (array-tells u8 (uint-vals w8) (uint-tells w8) 64, tt)))
       (λ κs qs bounds a g are. via 𝓤 _ (fst∗ 𝓤 _ (emp 𝓤)) (walk 𝓤 H A W mem run (κs .0) (qs .0) (a .0 .ptr .0) (a .0 .ptr .1) (a .0 .name) (a .0 .now) (a .1 .0) _ (are .0 .0 .1) (are .1 .0) 𝓣 known))
@@ -248,4 +248,4 @@ walk-back-spec 𝓤 H 𝓜 𝓖 𝓡 =
     entered 𝓤 H (tripleOf 𝓤 H (𝓖 .A) walk-back.signature (walk-back.spec 𝓤 H (𝓖 .A) (𝓜 .mem) (𝓡 .run)))
     (tables 𝓤 H 𝓜 𝓡 code.env .C) (tables 𝓤 H 𝓜 𝓡 code.env .Λ) #walk_back·walk-back code.function (code.unfolded 𝓤 H 𝓜 𝓡)
     (steps-meet 𝓤 H (𝓖 .A) (givenOf 𝓤 H 𝓜 𝓖) (𝓜 .mem) (𝓡 .run) (tablesOf 𝓤 H 𝓜 (tables 𝓤 H 𝓜 𝓡 code.env))
-    (cited 𝓤 H (Played 𝓤 H (𝓖 .A) (𝓜 .mem) (𝓡 .run)) 𝓜 𝓡 code.env #play·play-step step-def.routine code.calls-play·play-step (step-thm.met 𝓤 H 𝓜 𝓖 𝓡)))
+    (cited 𝓤 H (Played 𝓤 H (𝓖 .A) (𝓜 .mem) (𝓡 .run)) 𝓜 𝓡 code.env #back·play·play-step step-def.routine code.calls-back·play·play-step (step-thm.met 𝓤 H 𝓜 𝓖 𝓡)))

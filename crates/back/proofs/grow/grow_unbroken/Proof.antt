@@ -9,7 +9,8 @@ use Rattle.rules.specs.Refuse.{firstRow, bytesRows, answerRows}
 use Rattle.rules.specs.Call.{grown}
 use Rattle.whole.specs.Lists.{length-mapped}
 use Rattle.back.specs.SoundRecord.{few-decisions, few-steps, grown-front}
-use Rattle.back.specs.RefusalLaws.{bytes-pass, refused, accepted}
+use Rattle.back.specs.RefusalLaws.{refused, accepted}
+use Rattle.accepted_laws.specs.Rows.{bytes-lengths}
 use Rattle.back.proofs.grow.grow_unbroken.Statement.{statement}
 use Rattle.back.proofs.grow.grow_unbroken.Tie as tie
 
@@ -27,7 +28,7 @@ asked c =
 long : (c : tie.Else1) → let s = c .before .before .before .before .before .before .before in length (now (s .args .plan)) ≡ s .args .«record» .n
 long c =
     let a = c .before .before .before .before .before .before .before .args in
-    bytes-pass (a .«record») _ (now (a .answer)) (length (now (a .plan))) (sym (asked (c .before)) ∙ c .if1 .left) .1
+    bytes-lengths (a .«record») _ (now (a .answer)) (length (now (a .plan))) (sym (asked (c .before)) ∙ c .if1 .left) .1
 
 remaining-requires : tie.Need-remaining-requires
 remaining-requires c κs = few-decisions (c .before .before .before .before .args .«record») (c .before .before .before .before .pre)

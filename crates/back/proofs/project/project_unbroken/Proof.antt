@@ -7,7 +7,8 @@ use lib.ListN.{length, take}
 use Rattle.rules.specs.Record.{statesOf}
 use Rattle.rules.specs.Call.{projected}
 use Rattle.back.specs.SoundRecord.{few-decisions}
-use Rattle.back.specs.RefusalLaws.{bytes-pass, refused, accepted}
+use Rattle.back.specs.RefusalLaws.{refused, accepted}
+use Rattle.accepted_laws.specs.Rows.{bytes-lengths}
 use Rattle.back.proofs.project.project_unbroken.Statement.{statement}
 use Rattle.back.proofs.project.project_unbroken.Tie as tie
 
@@ -15,7 +16,7 @@ use Rattle.back.proofs.project.project_unbroken.Tie as tie
 long : (c : tie.Else1) → let s = c .before .before .before .before .before in length (now (s .args .out)) ≡ s .args .«record» .n
 long c =
     let a = c .before .before .before .before .before .args in
-    bytes-pass (a .«record») (a .«record» .n) (now (a .plan)) (length (now (a .out))) (sym (c .before .bytes-refusal .ensures) ∙ c .if1 .left) .1
+    bytes-lengths (a .«record») (a .«record» .n) (now (a .plan)) (length (now (a .out))) (sym (c .before .bytes-refusal .ensures) ∙ c .if1 .left) .1
 
 returns : tie.Need-returns
 returns c =
