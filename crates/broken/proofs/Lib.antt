@@ -1,3 +1,4 @@
+pub mod Decided
 pub mod MarkLaws
+pub mod Places
 pub mod Ranges
-pub mod StepTests

@@ -1,98 +1,100 @@
 // "A body is broken unless ..."
 ghost use mathlib.Core.Path.{_≡_};
-ghost use Prim.Native.Nat.{_<_, _≤_, _-_};
+ghost use mathlib.Core.Bool.{cond, _&&_};
+ghost use mathlib.Core.List.{[], _∷_};
+ghost use Prim.Native.Nat.{_-_, _^_, _≤_};
 ghost use lib.Dec.{leb, ltb, eqb};
 ghost use lib.IntN.{natAbs};
-ghost use lib.ListN.{drop};
-ghost use mathlib.Core.List.{[], _∷_};
-ghost use Rattle.whole.specs.Words.{from, upto, mem, all};
-ghost use Rattle.rules.specs.Record.{isNone, stateAt, stepAt, decided, nearOf, ascending, nearFine, choiceLimit, stepFine, stepped, broken};
+ghost use lib.ListN.{length, getD, drop};
+ghost use Rattle.whole.specs.Words.{from, upto, all, bit};
+ghost use Rattle.rules.specs.Record.{isNone, stepAt, choiceLimit, stepFine, stepped, broken};
+ghost use Rattle.broken.specs.Masks.{single, placeFine, Sorted, Known, nearBy, stepBy};
 use rules::Record;
 use rules::Step;
 
 mod mark; // a state byte
 
-// Is j the decision of one of the first k steps?
-fn is_decided(r: Record, k: usize, j: u8) -> bool
-    requires { ⌜ k ≤ 64 ⌝ }
-    ensures { λ b. ⌜ b ≡ mem j (decided r k) ⌝ }
+// Is j in the mask? No mask has a decision from 64 on.
+fn has(m: u64, j: u8) -> bool
+    ensures { λ b. ⌜ b ≡ bit m j ⌝ }
 {
+    if j >= 64 {
+        return false;
+    }
+    (m >> j) % 2 == 1
+}
+
+// The mask of j alone.
+fn only(j: u8) -> u64
+    ensures { λ m. ⌜ m ≡ single j ⌝ }
+{
+    if j >= 64 {
+        return 0;
+    }
+    1 << j
+}
+
+fn mask_if(held: bool, m: u64) -> u64
+    ensures { λ r. ⌜ r ≡ cond held m 0 ⌝ }
+{
+    if held {
+        return m;
+    }
+    0
+}
+
+// The states of the decisions below n: is each known, which are not fixed, which are eliminated?
+struct States {
+    known: bool,
+    unfixed: u64,
+    eliminated: u64,
+}
+
+fn states_of(states: &[u8; 64], n: usize) -> States
+    requires { ⌜ n ≤ 64 ⌝ }
+    ensures { λ s. ⌜ Sorted (now (states .entry)) n s ⌝ }
+{
+    let mut known = true;
+    let mut unfixed: u64 = 0;
+    let mut eliminated: u64 = 0;
     let mut i: usize = 0;
-    while i < k {
-        let s = r.steps[i];
-        if s.decision == j {
-            return true;
-        }
+    while i < n {
+        let one: u64 = 1 << i;
+        let m = mark::mark_of(states[i]);
+        known = known & mark::is_known(m);
+        unfixed = unfixed | mask_if(!mark::is_fixed(m), one);
+        eliminated = eliminated | mask_if(mark::is_eliminated(m), one);
         i = i + 1;
     }
-    false
+    States {
+        known: known,
+        unfixed: unfixed,
+        eliminated: eliminated,
+    }
 }
 
-// A neighbour of step k: below n, not fixed, and the decision of neither this nor an earlier step.
-fn neighbour_fine(r: Record, k: usize, j: u8) -> bool
-    requires { ⌜ (r .n ≤ 64) × (k < 64) ⌝ }
-    ensures { λ b. ⌜ b ≡ nearFine r k j ⌝ }
+// Is each byte from one place up to another zero?
+pub fn zero_bytes(bytes: &[u8], start: usize, end: usize) -> bool
+    requires { ⌜ end ≤ length (now bytes) ⌝ }
+    ensures { λ b. ⌜ b ≡ all (λ k. eqb (getD (now (bytes .entry)) k 0) 0) (from start (end - start)) ⌝ }
 {
-    if j >= r.n {
-        return false;
+    let mut zero = true;
+    let mut k = start;
+    while k < end {
+        zero = zero & (bytes[k] == 0);
+        k = k + 1;
     }
-    let at = j as usize;
-    if mark::is_fixed(mark::mark_of(r.states[at])) {
-        return false;
-    }
-    if is_decided(r, k + 1, j) {
-        return false;
-    }
-    true
+    zero
 }
 
-// Each neighbour of step k.
-fn neighbours_fine(r: Record, k: usize, s: Step) -> bool
-    requires { ⌜ (r .n ≤ 64) × (k < 64) × (s .degree ≤ 3) ⌝ }
-    ensures { λ b. ⌜ b ≡ all (nearFine r k) (nearOf s) ⌝ }
+// One of a step's three places: a free neighbour where it is used, else zero.
+fn place_fine(free: u64, used: bool, j: u8) -> bool
+    ensures { λ b. ⌜ b ≡ placeFine free used j ⌝ }
 {
-    let near = [s.first, s.second, s.third];
-    let d = s.degree as usize;
-    let mut i: usize = 0;
-    while i < d {
-        if !neighbour_fine(r, k, near[i]) {
-            return false;
-        }
-        i = i + 1;
+    if used {
+        return has(free, j);
     }
-    true
-}
-
-fn is_ascending(s: Step) -> bool
-    requires { ⌜ s .degree ≤ 3 ⌝ }
-    ensures { λ b. ⌜ b ≡ ascending (nearOf s) ⌝ }
-{
-    if s.degree < 2 {
-        return true;
-    }
-    if s.first >= s.second {
-        return false;
-    }
-    if s.degree < 3 {
-        return true;
-    }
-    s.second < s.third
-}
-
-// Each place past the neighbours.
-fn rest_zero(s: Step) -> bool
-    requires { ⌜ s .degree ≤ 3 ⌝ }
-    ensures { λ b. ⌜ b ≡ all (λ x. eqb x 0) (drop (s .degree) (s .first ∷ s .second ∷ s .third ∷ [])) ⌝ }
-{
-    let near = [s.first, s.second, s.third];
-    let mut i = s.degree as usize;
-    while i < 3 {
-        if near[i] != 0 {
-            return false;
-        }
-        i = i + 1;
-    }
-    true
+    j == 0
 }
 
 // No choice for a mask that d neighbours do not have.
@@ -107,49 +109,54 @@ fn choices_fine(d: u8, choices: u8) -> bool
     }
 }
 
-fn step_fine(r: Record, k: usize) -> bool
-    requires { ⌜ (r .n ≤ 64) × (k < 64) ⌝ }
-    ensures { λ b. ⌜ b ≡ stepFine r k ⌝ }
+// The degree, the neighbours, and what is unused.
+fn near_fine(free: u64, s: Step) -> bool
+    ensures { λ b. ⌜ b ≡ nearBy free s ⌝ }
 {
-    let s = r.steps[k];
-    if s.decision >= r.n {
-        return false;
-    }
-    let at = s.decision as usize;
-    if !mark::is_eliminated(mark::mark_of(r.states[at])) {
-        return false;
-    }
-    if is_decided(r, k, s.decision) {
-        return false;
-    }
-    if s.degree > 3 {
-        return false;
-    }
-    if !is_ascending(s) {
-        return false;
-    }
-    if !neighbours_fine(r, k, s) {
-        return false;
-    }
-    if !rest_zero(s) {
-        return false;
-    }
-    choices_fine(s.degree, s.choices)
+    let d = s.degree;
+    let first = place_fine(free, d > 0, s.first);
+    let second = place_fine(free, d > 1, s.second);
+    let third = place_fine(free, d > 2, s.third);
+    let ascending = ((d < 2) | (s.first < s.second)) & ((d < 3) | (s.second < s.third));
+    let choices = choices_fine(d, s.choices);
+    (d <= 3) & (ascending & (first & (second & (third & choices))))
 }
 
-fn steps_fine(r: Record) -> bool
-    requires { ⌜ (r .n ≤ 64) × (r .count ≤ 64) ⌝ }
-    ensures { λ b. ⌜ b ≡ all (stepFine r) (upto (r .count)) ⌝ }
+// A step: `due` has the eliminated decisions that no earlier step has, `free` those that may be its neighbours.
+fn step_fine(due: u64, free: u64, s: Step) -> bool
+    ensures { λ b. ⌜ b ≡ stepBy due free s ⌝ }
+{
+    has(due, s.decision) & near_fine(free, s)
+}
+
+// Each step is fine, and each eliminated decision is some step's. `decided` has the decisions of the steps so far.
+fn steps_fine(r: Record, unfixed: u64, eliminated: u64) -> bool
+    requires { ⌜ Known r unfixed eliminated ⌝ }
+    ensures { λ b. ⌜ b ≡ (all (stepFine r) (upto (r .count)) && all (stepped r) (upto (r .n))) ⌝ }
 {
     let count = r.count as usize;
+    let mut decided: u64 = 0;
     let mut k: usize = 0;
     while k < count {
-        if !step_fine(r, k) {
+        let s = r.steps[k];
+        let after = decided | only(s.decision);
+        let due = whole::without(eliminated, decided);
+        let free = whole::without(unfixed, after);
+        if !step_fine(due, free, s) {
             return false;
         }
+        decided = after;
         k = k + 1;
     }
-    true
+    whole::without(eliminated, decided) == 0
+}
+
+// A step that is not used.
+fn is_none(s: Step) -> bool
+    ensures { λ b. ⌜ b ≡ isNone s ⌝ }
+{
+    let near = (s.first == 0) & ((s.second == 0) & (s.third == 0));
+    (s.decision == 0) & ((s.degree == 0) & (near & (s.choices == 0)))
 }
 
 // No step past the count.
@@ -157,102 +164,22 @@ fn rest_unused(r: Record) -> bool
     requires { ⌜ r .count ≤ 64 ⌝ }
     ensures { λ b. ⌜ b ≡ all (λ k. isNone (stepAt r k)) (from (r .count) (64 - r .count)) ⌝ }
 {
+    let mut unused = true;
     let mut k = r.count as usize;
     while k < 64 {
-        if !is_none(r.steps[k]) {
-            return false;
-        }
+        unused = unused & is_none(r.steps[k]);
         k = k + 1;
     }
-    true
-}
-
-fn is_none(s: Step) -> bool
-    ensures { λ b. ⌜ b ≡ isNone s ⌝ }
-{
-    if s.decision != 0 {
-        return false;
-    }
-    if s.degree != 0 {
-        return false;
-    }
-    if s.first != 0 {
-        return false;
-    }
-    if s.second != 0 {
-        return false;
-    }
-    if s.third != 0 {
-        return false;
-    }
-    s.choices == 0
-}
-
-fn states_fine(r: Record) -> bool
-    requires { ⌜ r .n ≤ 64 ⌝ }
-    ensures { λ b. ⌜ b ≡ all (λ i. leb (stateAt r i) 3) (upto (r .n)) ⌝ }
-{
-    let n = r.n as usize;
-    let mut i: usize = 0;
-    while i < n {
-        if !mark::is_known(mark::mark_of(r.states[i])) {
-            return false;
-        }
-        i = i + 1;
-    }
-    true
-}
-
-// No state past n.
-fn states_end(r: Record) -> bool
-    requires { ⌜ r .n ≤ 64 ⌝ }
-    ensures { λ b. ⌜ b ≡ all (λ i. eqb (stateAt r i) 0) (from (r .n) (64 - r .n)) ⌝ }
-{
-    let mut i = r.n as usize;
-    while i < 64 {
-        if r.states[i] != 0 {
-            return false;
-        }
-        i = i + 1;
-    }
-    true
-}
-
-// A state-3 decision is some step's.
-fn is_stepped(r: Record, i: usize) -> bool
-    requires { ⌜ (i < 64) × (r .count ≤ 64) ⌝ }
-    ensures { λ b. ⌜ b ≡ stepped r i ⌝ }
-{
-    if !mark::is_eliminated(mark::mark_of(r.states[i])) {
-        return true;
-    }
-    is_decided(r, r.count as usize, i as u8)
-}
-
-fn all_stepped(r: Record) -> bool
-    requires { ⌜ (r .n ≤ 64) × (r .count ≤ 64) ⌝ }
-    ensures { λ b. ⌜ b ≡ all (stepped r) (upto (r .n)) ⌝ }
-{
-    let n = r.n as usize;
-    let mut i: usize = 0;
-    while i < n {
-        if !is_stepped(r, i) {
-            return false;
-        }
-        i = i + 1;
-    }
-    true
+    unused
 }
 
 fn constant_fine(z: i64) -> bool
     ensures { λ b. ⌜ b ≡ leb (natAbs z) 1099511627776 ⌝ }
 {
-    if z < -1099511627776 {
-        return false;
-    }
-    z <= 1099511627776
+    (z >= -1099511627776) & (z <= 1099511627776)
 }
 
+// n and the count make the other tests possible; then each is made.
 pub fn is_broken(record: Record) -> bool
     ensures { λ b. ⌜ b ≡ broken «record» ⌝ }
 {
@@ -262,20 +189,11 @@ pub fn is_broken(record: Record) -> bool
     if record.count > 64 {
         return true;
     }
-    if !constant_fine(record.constant) {
-        return true;
-    }
-    if !states_fine(record) {
-        return true;
-    }
-    if !states_end(record) {
-        return true;
-    }
-    if !steps_fine(record) {
-        return true;
-    }
-    if !all_stepped(record) {
-        return true;
-    }
-    !rest_unused(record)
+    let n = record.n as usize;
+    let states = states_of(&record.states, n);
+    let constant = constant_fine(record.constant);
+    let ended = zero_bytes(&record.states, n, 64);
+    let steps = steps_fine(record, states.unfixed, states.eliminated);
+    let unused = rest_unused(record);
+    !(constant & (states.known & (ended & (steps & unused))))
 }

@@ -84,13 +84,3 @@ sums-turn l k s t s′ t′ h e f = rw (add-one, drop-cons l k 0 h, f, e)
 pub sums-over : (l : List ℕ) (k s t : ℕ) → length l ≤ k → sums (record { s1 = s; s2 = t }) (drop k l) ≡ record { s1 = s; s2 = t }
 unfolding sums
 sums-over l k s t h = rw (drop-of-length-le l h)
-
--- ---- the check's four bytes
-module _ (b : List ℕ) (v s : ℕ) (ev : v ≡ fromLittle (take 2 (drop 508 b))) (es : s ≡ check (take 508 b) .s1) where
-  pub first-wrong : (v ≡ s → ⊥) → false ≡ checkRight b
-  unfolding checkRight
-  first-wrong n = rw (← ev, ← es, ne-eqb v s n)
-
-  pub second-tells : v ≡ s → (w t : ℕ) → w ≡ fromLittle (take 2 (drop 510 b)) → t ≡ check (take 508 b) .s2 → eqb w t ≡ checkRight b
-  unfolding checkRight
-  second-tells e w t ew et = rw (← ev, ← es, ← ew, ← et, eq-eqb v s e)

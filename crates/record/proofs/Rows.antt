@@ -1,36 +1,33 @@
 -- What reading and writing give, from their number.
 -- Assumes nothing.
-use mathlib.Core.Path.{_≡_, ap, _∙_}
-use mathlib.Core.Bool.{Bool, true, false, not, _&&_}
-use mathlib.Core.List.{List}
-use Prim.Native.Nat.{ℕ, suc}
+use mathlib.Core.Path.{_≡_, refl, ap, ap₂, _∙_}
+use mathlib.Core.Bool.{Bool, cond}
+use mathlib.Core.List.{List, _∷_}
+use Prim.Native.Nat.{ℕ, zero, suc}
 use lib.ListN.{length}
-use Rattle.rules.specs.Refuse.{readRefusal, writeRefusal}
+use Rattle.rules.specs.Refuse.{firstRow, readRefusal, writeRefusal}
 use Rattle.rules.specs.Record.{recordIn, noRecord, blockOf}
 use Rattle.rules.specs.Call.{unless, reading, blockAfter}
 use Rattle.rules.specs.declared.Record.{Record}
 use Rattle.rules.specs.declared.Reading.{Reading}
 
--- a body is broken by a byte that no field holds, or by the record
-pub zeros-wrong : (z s : Bool) → z ≡ false → not (z && s) ≡ true
-zeros-wrong z s e = rw e
+-- a row as the code asks it
+pub row-next : (k : ℕ) (t u : Bool) (below r : ℕ) (rs : List (ℕ × Bool)) → r ≡ cond t k below → t ≡ u → below ≡ firstRow rs → r ≡ firstRow ((k, u) ∷ rs)
+unfolding firstRow
+row-next k t u below r rs e f g = e ∙ ap₂ (λ (b : Bool) (n : ℕ). cond b k n) f g
 
-pub record-wrong : (z s : Bool) {t : Bool} → z ≡ true → not s ≡ t → not (z && s) ≡ t
-record-wrong z s e h = rw e h
+pub unless-other : {A : Type 0} (k : ℕ) (x y : A) → (k ≡ 0 → ⊥) → y ≡ unless k x y
+unless-other zero x y d = absurd (d refl)
+unless-other (suc k) x y d = refl
 
 -- what reading gives, from its number
-pub no-reading : (b : List ℕ) (k : ℕ) (r : Reading) → suc k ≡ readRefusal b → (r .answer ≡ suc k) × (r .«record» ≡ noRecord) → r ≡ reading b
+pub reading-is : (b : List ℕ) (r : Reading) (k : ℕ) (x : Record) → (r .answer ≡ k) × (r .«record» ≡ unless k x noRecord)
+    → k ≡ readRefusal b → unless k x noRecord ≡ unless k (recordIn b) noRecord → r ≡ reading b
 unfolding reading
-no-reading b k r e h =
+reading-is b r k x h e w =
     let p : r .answer ≡ readRefusal b = h .0 ∙ e in
-    let q : r .«record» ≡ unless (readRefusal b) (recordIn b) noRecord = h .1 ∙ ap (λ (n : ℕ). unless n (recordIn b) noRecord) e in
+    let q : r .«record» ≡ unless (readRefusal b) (recordIn b) noRecord = h .1 ∙ w ∙ ap (λ (n : ℕ). unless n (recordIn b) noRecord) e in
     λ i. record { answer = p i; «record» = q i }
-
-pub one-reading : (b : List ℕ) (r : Record) → 0 ≡ readRefusal b → r ≡ recordIn b → record { answer = 0; «record» = r } ≡ reading b
-unfolding reading
-one-reading b r e h =
-    let q : r ≡ unless (readRefusal b) (recordIn b) noRecord = h ∙ ap (λ (n : ℕ). unless n (recordIn b) noRecord) e in
-    λ i. record { answer = e i; «record» = q i }
 
 -- and what writing leaves, from its number
 pub kept-block : (r : Record) (l : List ℕ) (k : ℕ) → suc k ≡ writeRefusal r (length l) → l ≡ blockAfter r l

@@ -28,15 +28,9 @@ pub fn little_in(block: &[u8], at: usize, count: usize) -> u64
     let mut k = count;
     while 0 < k {
         k = k - 1;
-        v = 256 * v + wide(block[at + k]);
+        v = 256 * v + whole::wide(block[at + k]);
     }
     v
-}
-
-fn wide(b: u8) -> u64
-    ensures { λ r. ⌜ r ≡ b ⌝ }
-{
-    b as u64
 }
 
 pub fn to_twos(z: i64) -> u64

@@ -5,6 +5,7 @@ ghost use lib.Dec.{eqb};
 ghost use lib.ListN.{length, getD, take, drop};
 ghost use mathlib.Core.List.{map};
 ghost use Rattle.whole.specs.Words.{upto};
+ghost use Rattle.rules.specs.Call.{unless};
 ghost use Rattle.rules.specs.Record.{edition, stepIn, recordIn, zerosIn, noRecord};
 ghost use Rattle.record.specs.Promises.{Reads};
 use crate::number;
@@ -36,38 +37,11 @@ fn step_in(block: &[u8], at: usize) -> Step
     }
 }
 
-fn no_record() -> Record
-    ensures { λ r. ⌜ r ≡ noRecord ⌝ }
-{
-    let none = Step {
-        decision: 0,
-        degree: 0,
-        first: 0,
-        second: 0,
-        third: 0,
-        choices: 0,
-    };
-    Record {
-        n: 0,
-        count: 0,
-        constant: 0,
-        states: [0; 64],
-        steps: [none; 64],
-    }
-}
-
 fn steps_in(block: &[u8]) -> [Step; 64]
     requires { ⌜ length (now block) ≡ 512 ⌝ }
     ensures { λ r. ⌜ r ≡ map (λ k. stepIn (now (block .entry)) (76 + 6 * k)) (upto 64) ⌝ }
 {
-    let none = Step {
-        decision: 0,
-        degree: 0,
-        first: 0,
-        second: 0,
-        third: 0,
-        choices: 0,
-    };
+    let none = rules::no_step();
     let mut steps = [none; 64];
     let mut k: usize = 0;
     while k < 64 {
@@ -111,51 +85,36 @@ fn zeros_in(block: &[u8]) -> bool
     requires { ⌜ length (now block) ≡ 512 ⌝ }
     ensures { λ r. ⌜ r ≡ zerosIn (now (block .entry)) ⌝ }
 {
-    if block[3] != 0 {
-        return false;
-    }
-    let mut k: usize = 460;
-    while k < 508 {
-        if block[k] != 0 {
-            return false;
-        }
-        k = k + 1;
-    }
-    true
+    (block[3] == 0) & broken::zero_bytes(block, 460, 508)
 }
 
-fn refused(answer: u8) -> Reading
-    ensures { λ r. ⌜ (r .answer ≡ answer) × (r .«record» ≡ noRecord) ⌝ }
+// A refusal's number with an empty record, or 0 and the record.
+fn reading_of(answer: u8, record: Record) -> Reading
+    ensures { λ r. ⌜ (r .answer ≡ answer) × (r .«record» ≡ unless answer «record» noRecord) ⌝ }
 {
-    let none = no_record();
+    if answer == 0 {
+        return Reading {
+            answer: 0,
+            record: record,
+        };
+    }
+    let none = rules::no_record();
     Reading {
         answer: answer,
         record: none,
     }
 }
 
-// A refusal's number with an empty record, or 0 and the record.
+// The length makes the other rows possible; then each is asked, the last first.
 pub fn read_record(block: &[u8]) -> Reading
     ensures { λ r. ⌜ Reads (now (block .entry)) r ⌝ }
 {
     if block.len() != 512 {
-        return refused(9);
-    }
-    if !sums::is_right(block) {
-        return refused(10);
-    }
-    if !is_edition(block) {
-        return refused(11);
-    }
-    if !zeros_in(block) {
-        return refused(12);
+        return reading_of(9, rules::no_record());
     }
     let record = record_in(block);
-    if broken::is_broken(record) {
-        return refused(12);
-    }
-    Reading {
-        answer: 0,
-        record: record,
-    }
+    let fine = zeros_in(block) & !broken::is_broken(record);
+    let eleven = rows::row(11, !is_edition(block), rows::row(12, !fine, 0));
+    let ten = rows::row(10, !sums::is_right(block), eleven);
+    reading_of(ten, record)
 }

@@ -32,10 +32,9 @@ pub fn is_right(block: &[u8]) -> bool
     ensures { λ r. ⌜ r ≡ checkRight (now (block .entry)) ⌝ }
 {
     let sums = sums_of(block);
-    if number::little_in(block, 508, 2) != sums.s1 as u64 {
-        return false;
-    }
-    number::little_in(block, 510, 2) == sums.s2 as u64
+    let first = number::little_in(block, 508, 2);
+    let second = number::little_in(block, 510, 2);
+    (first == sums.s1 as u64) & (second == sums.s2 as u64)
 }
 
 // Closes a block whose first 508 bytes are written.

@@ -1,25 +1,25 @@
 -- Decisions as the bits of a 64-bit mask: each operation bit by bit, and the lowest bit taken off.
 -- Assumes nothing.
 use mathlib.Core.Path.{_≡_, refl, sym, ap, ap₂, _∙_}
-use mathlib.Core.Bool.{Bool, true, false, cond, not, _&&_, _||_}
+use mathlib.Core.Bool.{Bool, true, false, cond, not, _&&_, _||_, and-true as and-yes, and-false, or-false}
 use mathlib.Core.List.{List, [], _∷_, _++_, append-assoc}
 use mathlib.Core.Logic.{_≢_}
 use Prim.Native.Nat.{ℕ, zero, suc, _+_, _*_, _-_, _/_, _%_, _^_, _<_, _≤_, min, max}
 use native.Mathlib.Omega.{arith}
-use native.Mathlib.Nat.{pow-suc, mod-eq-of-lt, one-mul, mul-comm, div-div-eq-div-mul, div-one, add-zero, sub-self, zero-add}
+use native.Mathlib.Nat.{pow-suc, mod-eq-of-lt, one-mul, mul-comm, div-div-eq-div-mul, div-eq-of-lt, div-one, add-zero, sub-self, zero-add, pow-le-pow-right}
 use native.Mathlib.Numerals.{add-one}
-use lib.Dec.{eqb, eqb·suc-suc}
+use lib.Dec.{ltb, eqb, eqb·suc-suc}
 use lib.ListN.{length, take, set}
 use lib.Seq.{take-suc-set}
 use lib.Bits.{bitAnd, bitOr, bitXor, differ, and-step, or-step, xor-step, and-shr, or-shr, xor-shr, and-self, and-le-r}
 use lib.Count.{trailingZeros, under}
 use lib.Pow.{pow-lt}
-use borrow.Author.Tests.{ne-eqb}
-use Rattle.whole.specs.Words.{odd, bit, from, upto, mem, those}
-use Rattle.whole.specs.Members.{in-head, in-tail, mem-those, in-those, from-in, in-upto, upto-in, apart-those, apart-upto, in-cons}
+use borrow.Author.Tests.{lt-ltb, le-ltb, ltb-true, ne-eqb, eq-eqb, eqb-true, eqb-false}
+use Rattle.whole.specs.Words.{odd, bit, from, upto, mem, those, all}
+use Rattle.whole.specs.Members.{in-head, in-tail, mem-those, in-those, from-in, in-upto, upto-in, apart-those, apart-upto, in-cons, all-of, all-in}
 use Rattle.whole.specs.Pigeon.{Apart}
 use Rattle.whole.specs.Counts.{shift}
-use Rattle.whole.specs.Tests.{clash}
+use Rattle.whole.specs.Tests.{clash, cases, and-true, not-off, off-not, same-test}
 
 -- the decisions of a mask, ascending
 unfoldable pub these : ℕ → List ℕ
@@ -279,3 +279,36 @@ turn m d h = record {
 }
 
 -- ---- a mask of those that pass says whether some does
+module _ (p : ℕ → Bool) where
+  -- one decision more
+  pub bit-turn : (c m k : ℕ) → bit m k ≡ (ltb k c && p k) → bit (bitOr m (cond (p c) (2 ^ c) 0)) k ≡ (ltb k (c + 1) && p k)
+  bit-turn c m k h = bit-or m (cond (p c) (2 ^ c) 0) k ∙ ap₂ (λ (x y : Bool). x || y) h (shown (p c)) ∙ cases (eqb k c) here there
+    where
+      shown : (b : Bool) → bit (cond b (2 ^ c) 0) k ≡ (b && eqb k c)
+      shown true = bit-single c k
+      shown false = bit-none k
+
+      here : eqb k c ≡ true → ((ltb k c && p k) || (p c && eqb k c)) ≡ (ltb k (c + 1) && p k)
+      here t =
+          let e : k ≡ c = eqb-true k c t in
+          rw (t, le-ltb k c (omega arith), lt-ltb k (c + 1) (omega arith), e) (and-yes (p c))
+
+      there : eqb k c ≡ false → ((ltb k c && p k) || (p c && eqb k c)) ≡ (ltb k (c + 1) && p k)
+      there t = rw (t, and-false (p c), or-false (ltb k c && p k)) (ap (λ (b : Bool). b && p k) (same-test (ltb k c) (ltb k (c + 1))
+          (λ b. lt-ltb k (c + 1) (omega (arith, ltb-true k c b))) (λ b. lt-ltb k c (omega (arith, ltb-true k (c + 1) b, eqb-false k c t)))))
+
+  pub none-passes : (n m : ℕ) → m < 2 ^ 64 → ((k : ℕ) → bit m k ≡ (ltb k n && p k)) → eqb m 0 ≡ all (λ k. not (p k)) (upto n)
+  none-passes n m l h = same-test (eqb m 0) (all (λ k. not (p k)) (upto n))
+      (λ z. all-of (λ k. not (p k)) (upto n) (λ k i. not-off (sym (ap (λ (b : Bool). b && p k) (lt-ltb k n (upto-in k n i))) ∙ sym (h k) ∙ ap (λ (x : ℕ). bit x k) (eqb-true m 0 z) ∙ bit-none k)))
+      (λ a. cases (eqb m 0) (λ z. z) (λ z.
+      let d = eqb-false m 0 z in
+      let k = trailingZeros 64 m in
+      let y = and-true (ltb k n) (p k) (sym (h k) ∙ sym (mem-these m k (these-below m k (first-in m d l))) ∙ first-in m d l) in
+      clash (y .1) (off-not (p k) (all-in (λ k. not (p k)) (upto n) a k (in-upto k n (ltb-true k n (y .0)))))))
+
+-- a mask has none from 64 on
+pub bit-high : (m k : ℕ) → m < 2 ^ 64 → 64 ≤ k → bit m k ≡ false
+bit-high m k l h =
+    let p : 2 ^ 64 ≤ 2 ^ k = pow-le-pow-right (omega arith) h in
+    let q : m < 2 ^ k = omega arith in
+    ap (λ (x : ℕ). eqb (x % 2) 1) (div-eq-of-lt q)

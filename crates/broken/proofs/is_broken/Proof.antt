@@ -1,99 +1,50 @@
-use mathlib.Core.Path.{_≡_, sym, ap, _∙_}
+use mathlib.Core.Path.{_≡_, ap, _∙_}
+use mathlib.Core.Bool.{Bool, true, not, _&&_, and-assoc, and-true}
+use mathlib.Core.List.{[], _∷_}
+use native.Mathlib.Omega.{arith}
 use borrow.Author.Needs.{needs}
-use mathlib.Core.Bool.{not}
-use borrow.Author.Tests.{lt-leb, le-leb, not-true, not-false}
+use borrow.Author.Tests.{lt-leb, le-leb}
 use lib.Dec.{leb}
 use lib.IntN.{ℤ, natAbs}
 use mir.Syntax.{w64}
 use mir.Val.{SFits}
 use Rattle.whole.specs.Ints.{rd}
+use Rattle.whole.specs.Words.{allOf}
 use Rattle.rules.specs.Record.{sound}
-use Rattle.broken.proofs.Ranges.{fails, passes, last}
 use Rattle.broken.proofs.is_broken.Statement.{statement}
 use Rattle.broken.proofs.is_broken.Tie as tie
 
--- the constant as the call has it
-told : (c : tie.After-constant-fine) → c .constant-fine .result ≡ leb (natAbs (c .before .before .before .before .before .before .args .«record» .constant)) 1099511627776
-told c =
-    let z = c .before .before .before .before .before .before .args .«record» .constant in
-    let f : SFits w64 z = search needs in
-    c .constant-fine .ensures ∙ ap (λ (x : ℤ). leb (natAbs x) 1099511627776) (rd f)
-
 returns : tie.Need-returns
-unfolding sound
-returns c =
-    ap not
-    (fails _ _ (lt-leb _ _ (c .if1 .taken)))
+unfolding sound allOf
+returns c = rw (lt-leb _ _ (c .if1 .taken))
 
 returns-2 : tie.Need-returns-2
-unfolding sound
-returns-2 c =
-    ap not
-    (passes _ _ (le-leb _ _ (c .before .before .if1 .left))
-    (fails _ _ (lt-leb _ _ (c .if2 .taken))))
+unfolding sound allOf
+returns-2 c = rw (le-leb _ _ (c .before .if1 .left), lt-leb _ _ (c .if2 .taken))
+
+steps-fine-requires : tie.Need-steps-fine-requires
+steps-fine-requires c κs =
+    let told = c .before .before .before .before .before .before .states-of .ensures in
+    record { low = omega arith; few = omega arith; unfixed = told .unfixed; eliminated = told .eliminated }
+
+-- the tests in the order of the rules
+in-order : (c k z a b u : Bool) → (c && (k && (z && (a && b && u)))) ≡ allOf (true ∷ true ∷ c ∷ k ∷ z ∷ a ∷ b ∷ u ∷ [])
+unfolding allOf
+in-order c k z a b u = simp (and-assoc, and-true)
 
 returns-3 : tie.Need-returns-3
 unfolding sound
 returns-3 c =
-    ap not
-    (passes _ _ (le-leb _ _ (c .before .before .before .before .before .if1 .left))
-    (passes _ _ (le-leb _ _ (c .before .before .before .if2 .left))
-    (fails _ _ (sym (told (c .before)) ∙ not-true _ (c .if3 .taken)))))
-
-returns-4 : tie.Need-returns-4
-unfolding sound
-returns-4 c =
-    ap not
-    (passes _ _ (le-leb _ _ (c .before .before .before .before .before .before .before .if1 .left))
-    (passes _ _ (le-leb _ _ (c .before .before .before .before .before .if2 .left))
-    (passes _ _ (sym (told (c .before .before .before)) ∙ not-false _ (c .before .before .if3 .left))
-    (fails _ _ (sym (c .before .states-fine .ensures) ∙ not-true _ (c .if4 .taken))))))
-
-returns-5 : tie.Need-returns-5
-unfolding sound
-returns-5 c =
-    ap not
-    (passes _ _ (le-leb _ _ (c .before .before .before .before .before .before .before .before .before .if1 .left))
-    (passes _ _ (le-leb _ _ (c .before .before .before .before .before .before .before .if2 .left))
-    (passes _ _ (sym (told (c .before .before .before .before .before)) ∙ not-false _ (c .before .before .before .before .if3 .left))
-    (passes _ _ (sym (c .before .before .before .states-fine .ensures) ∙ not-false _ (c .before .before .if4 .left))
-    (fails _ _ (sym (c .before .states-end .ensures) ∙ not-true _ (c .if5 .taken)))))))
-
-returns-6 : tie.Need-returns-6
-unfolding sound
-returns-6 c =
-    ap not
-    (passes _ _ (le-leb _ _ (c .before .before .before .before .before .before .before .before .before .before .before .if1 .left))
-    (passes _ _ (le-leb _ _ (c .before .before .before .before .before .before .before .before .before .if2 .left))
-    (passes _ _ (sym (told (c .before .before .before .before .before .before .before)) ∙ not-false _ (c .before .before .before .before .before .before .if3 .left))
-    (passes _ _ (sym (c .before .before .before .before .before .states-fine .ensures) ∙ not-false _ (c .before .before .before .before .if4 .left))
-    (passes _ _ (sym (c .before .before .before .states-end .ensures) ∙ not-false _ (c .before .before .if5 .left))
-    (fails _ _ (sym (c .before .steps-fine .ensures) ∙ not-true _ (c .if6 .taken))))))))
-
-returns-7 : tie.Need-returns-7
-unfolding sound
-returns-7 c =
-    ap not
-    (passes _ _ (le-leb _ _ (c .before .before .before .before .before .before .before .before .before .before .before .before .before .if1 .left))
-    (passes _ _ (le-leb _ _ (c .before .before .before .before .before .before .before .before .before .before .before .if2 .left))
-    (passes _ _ (sym (told (c .before .before .before .before .before .before .before .before .before)) ∙ not-false _ (c .before .before .before .before .before .before .before .before .if3 .left))
-    (passes _ _ (sym (c .before .before .before .before .before .before .before .states-fine .ensures) ∙ not-false _ (c .before .before .before .before .before .before .if4 .left))
-    (passes _ _ (sym (c .before .before .before .before .before .states-end .ensures) ∙ not-false _ (c .before .before .before .before .if5 .left))
-    (passes _ _ (sym (c .before .before .before .steps-fine .ensures) ∙ not-false _ (c .before .before .if6 .left))
-    (fails _ _ (sym (c .before .all-stepped .ensures) ∙ not-true _ (c .if7 .taken)))))))))
-
-returns-8 : tie.Need-returns-8
-unfolding sound
-returns-8 c =
-    ap not
-    (passes _ _ (le-leb _ _ (c .before .before .before .before .before .before .before .before .before .before .before .before .before .before .if1 .left))
-    (passes _ _ (le-leb _ _ (c .before .before .before .before .before .before .before .before .before .before .before .before .if2 .left))
-    (passes _ _ (sym (told (c .before .before .before .before .before .before .before .before .before .before)) ∙ not-false _ (c .before .before .before .before .before .before .before .before .before .if3 .left))
-    (passes _ _ (sym (c .before .before .before .before .before .before .before .before .states-fine .ensures) ∙ not-false _ (c .before .before .before .before .before .before .before .if4 .left))
-    (passes _ _ (sym (c .before .before .before .before .before .before .states-end .ensures) ∙ not-false _ (c .before .before .before .before .before .if5 .left))
-    (passes _ _ (sym (c .before .before .before .before .steps-fine .ensures) ∙ not-false _ (c .before .before .before .if6 .left))
-    (passes _ _ (sym (c .before .before .all-stepped .ensures) ∙ not-false _ (c .before .if7 .left))
-    (c .rest-unused .ensures ∙ last _))))))))
+    let ended = c .before .before .before in
+    let constant = ended .before .before .before .before in
+    let states = constant .before .before in
+    let r = states .before .before .before .before .before .args .t1 in
+    let f : SFits w64 (r .constant) = search needs in
+    let within : constant .constant-fine .result ≡ leb (natAbs (r .constant)) 1099511627776 = constant .constant-fine .ensures ∙ ap (λ (z : ℤ). leb (natAbs z) 1099511627776) (rd f) in
+    let low : leb (r .n) 64 ≡ true = le-leb (r .n) 64 (omega arith) in
+    let few : leb (r .count) 64 ≡ true = le-leb (r .count) 64 (omega arith) in
+    rw (low, few, within, states .states-of .ensures .known, ended .zero-bytes .ensures, c .before .before .steps-fine .ensures, c .before .rest-unused .ensures)
+    (ap not (in-order _ _ _ _ _ _))
 
 pub is-broken-spec : {M : Type 1} → statement M
 is-broken-spec =
@@ -101,15 +52,10 @@ is-broken-spec =
     (tie.spec
     returns
     returns-2
+    (λ c. search needs)
     (λ c κs. search needs)
-    returns-3
     (λ c κs. search needs)
-    returns-4
     (λ c κs. search needs)
-    returns-5
+    steps-fine-requires
     (λ c κs. search needs)
-    returns-6
-    (λ c κs. search needs)
-    returns-7
-    (λ c κs. search needs)
-    returns-8)
+    returns-3)

@@ -1,41 +1,80 @@
-use mathlib.Core.Path.{_≡_, sym, _∙_}
-use Prim.Native.Nat.{_≤_, _-_}
-use native.Mathlib.Omega.{arith}
-use borrow.Author.Needs.{needs}
+use mathlib.Core.Path.{_≡_, sym, ap, ap₂, _∙_}
+use mathlib.Core.Bool.{Bool, true, _&&_}
+use Prim.Native.Nat.{ℕ, _+_, _-_, _≤_}
 use native.Mathlib.Nat.{sub-zero}
+use native.Mathlib.Numerals.{add-one}
+use native.Mathlib.Omega.{arith}
+use lib.Bits.{bitOr}
+use borrow.Author.Needs.{needs}
 use borrow.Author.Tests.{not-true, not-false}
 use Rattle.whole.specs.Words.{from, upto, all}
-use Rattle.broken.proofs.Ranges.{all-fails, all-passes, all-over}
-use Rattle.rules.specs.Record.{stepFine}
+use Rattle.whole.specs.Masks.{without}
+use Rattle.rules.specs.Record.{stepAt, stepFine, stepped}
+use Rattle.rules.specs.declared.Record.{Record}
+use Rattle.broken.specs.Masks.{single, stepBy}
+use Rattle.broken.proofs.Decided.{Shows, shows-none, shows-more, decides, asked, ended}
+use Rattle.broken.proofs.Ranges.{all-turn, all-over}
 use Rattle.broken.proofs.steps_fine.Statement.{statement}
 use Rattle.broken.proofs.steps_fine.Tie as tie
 
 abbrev Inv-loop : tie.InvT-loop
-Inv-loop r count k₀ k = (k ≤ count) × (all (stepFine r) (upto count) ≡ all (stepFine r) (from k (count - k)))
+Inv-loop u e r count d₀ k₀ decided k = (k ≤ count) × (all (stepFine r) (upto count) ≡ all (stepFine r) (from k (count - k))) × Shows r k decided
 
 abbrev μ-loop : tie.MeasureT-loop
-μ-loop r count k₀ k = count - k
+μ-loop u e r count d₀ k₀ decided k = count - k
 
 loop-holds : tie.Need-loop-holds Inv-loop μ-loop
-loop-holds c = (omega arith, rw sub-zero)
+loop-holds c = (omega arith, rw sub-zero, shows-none (c .args .t1))
+
+-- step k, as the masks show it
+module _ (c : tie.After-step-fine Inv-loop μ-loop) where
+  abbrev chosen : tie.After-only Inv-loop μ-loop
+  chosen = c .before .before .before
+
+  abbrev turn : tie.At-loop Inv-loop μ-loop
+  turn = chosen .before .before .before
+
+  abbrev r : Record
+  r = turn .before .args .t1
+
+  abbrev k : ℕ
+  k = turn .loop .k
+
+  abbrev m : ℕ
+  m = turn .loop .decided
+
+  abbrev shown : Shows r k m
+  shown = turn .loop .inv .2
+
+  abbrev after : bitOr m (chosen .only .result) ≡ bitOr m (single (stepAt r k .decision))
+  after = ap (bitOr m) (chosen .only .ensures)
+
+  told : c .step-fine .result ≡ stepFine r k
+  told =
+      c .step-fine .ensures
+      ∙ ap₂ (λ (x y : ℕ). stepBy x y (stepAt r k)) (c .before .before .without .ensures) (c .before .without2 .ensures ∙ ap (without (turn .before .args .unfixed)) after)
+      ∙ asked r k m shown (turn .before .pre)
+
+  goes-on : {b : Bool} → stepFine r k ≡ b → all (stepFine r) (upto (r .count)) ≡ (b && all (stepFine r) (from (k + 1) (r .count - (k + 1))))
+  goes-on e = turn .loop .inv .1 ∙ all-turn (stepFine r) k (r .count) (omega arith) ∙ ap (λ (t : Bool). t && all (stepFine r) (from (k + 1) (r .count - (k + 1)))) e
 
 returns : tie.Need-returns Inv-loop μ-loop
-returns c =
-    let l = c .before .before .before .loop in
-    let r = c .before .before .before .before .before .args .r in
-    sym (l .inv .1 ∙ all-fails (stepFine r) (l .k) (r .count) (omega arith) (sym (c .before .step-fine .ensures) ∙ not-true _ (c .if1 .taken)))
+returns c = sym (rw (goes-on (c .before) (sym (told (c .before)) ∙ not-true _ (c .if1 .taken))))
 
 loop-again : tie.Need-loop-again Inv-loop μ-loop
 loop-again c =
-    let l = c .before .before .before .loop in
-    let r = c .before .before .before .before .before .args .r in
-    (omega arith, l .inv .1 ∙ all-passes (stepFine r) (l .k) (r .count) (omega arith) (sym (c .before .step-fine .ensures) ∙ not-false _ (c .if1 .left)))
+    let p = c .before in
+    let fine = sym (told p) ∙ not-false _ (c .if1 .left) in
+    (omega arith, goes-on p fine, rw (add-one, after p) (shows-more (r p) (k p) (m p) (shown p) (decides (r p) (k p) (m p) (shown p) (turn p .before .pre) fine)))
 
 returns-2 : tie.Need-returns-2 Inv-loop μ-loop
 returns-2 c =
-    let l = c .before .loop in
-    let r = c .before .before .before .args .r in
-    sym (l .inv .1 ∙ all-over (stepFine r) (l .k) (r .count) (omega arith))
+    let l = c .before .before .loop in
+    let s = c .before .before .before in
+    let r = s .args .t1 in
+    let last : l .k ≡ r .count = omega arith in
+    let fine : all (stepFine r) (upto (r .count)) ≡ true = l .inv .1 ∙ all-over (stepFine r) (l .k) (r .count) (omega arith) in
+    rw fine (ended r (l .k) (l .decided) (l .inv .2) (s .pre) (c .without3 .result) (c .without3 .ensures) (omega arith) last)
 
 pub steps-fine-spec : {M : Type 1} → statement M
 steps-fine-spec =
@@ -45,9 +84,15 @@ steps-fine-spec =
     μ-loop
     (λ c. search needs)
     loop-holds
+    (λ c. search needs)
+    (λ c. search needs)
+    (λ c κs. search needs)
+    (λ c κs. search needs)
+    (λ c κs. search needs)
     (λ c κs. search needs)
     returns
     (λ c. search needs)
     (λ c. search needs)
     loop-again
+    (λ c κs. search needs)
     returns-2)

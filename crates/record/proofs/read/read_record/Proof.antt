@@ -1,87 +1,52 @@
-use mathlib.Core.Path.{sym, ap, _∙_}
+use mathlib.Core.Path.{_≡_, refl, ap, ap₂, _∙_}
+use mathlib.Core.Bool.{Bool, not, _&&_, Bool·not-not}
 use borrow.Author.Needs.{needs}
-use mathlib.Core.Bool.{not}
-use borrow.Author.Tests.{not-true, not-false}
-use Rattle.rules.specs.Record.{broken}
+use denote.Ref.{now}
+use Rattle.whole.specs.Tests.{eqb-same, eqb-other}
+use Rattle.rules.specs.Call.{unless}
+use Rattle.rules.specs.Record.{recordIn, noRecord, sound, broken}
 use Rattle.rules.specs.Refuse.{readRefusal}
+use Rattle.rules.specs.declared.Record.{Record}
 use Rattle.accepted_laws.specs.Rows.{row-hit, row-skip, row-none}
-use Rattle.record.proofs.Rows.{zeros-wrong, record-wrong, no-reading, one-reading}
+use Rattle.record.proofs.Rows.{row-next, reading-is}
 use Rattle.record.proofs.read.read_record.Statement.{statement}
 use Rattle.record.proofs.read.read_record.Tie as tie
-use Rattle.whole.specs.Tests.{eqb-same, eqb-other}
 
 returns : tie.Need-returns
 unfolding readRefusal
-returns c =
-    no-reading _ 8 _
-    (row-hit _ _ _ (eqb-other _ _ (c .before .if1 .taken)))
-    (c .refused .ensures)
+returns c = reading-is _ _ 9 (c .before .no-record .result) (c .reading-of .ensures) (row-hit _ _ _ (eqb-other _ _ (c .before .before .if1 .taken))) refl
 
 returns-2 : tie.Need-returns-2
 unfolding readRefusal
 returns-2 c =
-    no-reading _ 9 _
-    (row-skip _ _ _ (eqb-same _ _ (c .before .before .before .if1 .left))
-    (row-hit _ _ _ (ap not (sym (c .before .before .is-right .ensures) ∙ not-true _ (c .before .if2 .taken)))))
-    (c .refused2 .ensures)
-
-returns-3 : tie.Need-returns-3
-unfolding readRefusal
-returns-3 c =
-    no-reading _ 10 _
-    (row-skip _ _ _ (eqb-same _ _ (c .before .before .before .before .before .if1 .left))
-    (row-skip _ _ _ (ap not (sym (c .before .before .before .before .is-right .ensures) ∙ not-false _ (c .before .before .before .if2 .left)))
-    (row-hit _ _ _ (ap not (sym (c .before .before .is-edition .ensures) ∙ not-true _ (c .before .if3 .taken))))))
-    (c .refused3 .ensures)
-
-returns-4 : tie.Need-returns-4
-unfolding readRefusal
-returns-4 c =
-    no-reading _ 11 _
-    (row-skip _ _ _ (eqb-same _ _ (c .before .before .before .before .before .before .before .if1 .left))
-    (row-skip _ _ _ (ap not (sym (c .before .before .before .before .before .before .is-right .ensures) ∙ not-false _ (c .before .before .before .before .before .if2 .left)))
-    (row-skip _ _ _ (ap not (sym (c .before .before .before .before .is-edition .ensures) ∙ not-false _ (c .before .before .before .if3 .left)))
-    (row-hit _ _ _ (zeros-wrong _ _ (sym (c .before .before .zeros-in .ensures) ∙ not-true _ (c .before .if4 .taken)))))))
-    (c .refused4 .ensures)
-
-returns-5 : tie.Need-returns-5
-unfolding readRefusal
-returns-5 c =
-    no-reading _ 11 _
-    (row-skip _ _ _ (eqb-same _ _ (c .before .before .before .before .before .before .before .before .before .before .if1 .left))
-    (row-skip _ _ _ (ap not (sym (c .before .before .before .before .before .before .before .before .before .is-right .ensures) ∙ not-false _ (c .before .before .before .before .before .before .before .before .if2 .left)))
-    (row-skip _ _ _ (ap not (sym (c .before .before .before .before .before .before .before .is-edition .ensures) ∙ not-false _ (c .before .before .before .before .before .before .if3 .left)))
-    (row-hit _ _ _ (record-wrong _ _ (sym (c .before .before .before .before .before .zeros-in .ensures) ∙ not-false _ (c .before .before .before .before .if4 .left)) (sym (ap broken (c .before .before .before .record-in .ensures)) ∙ sym (c .before .before .is-broken .ensures) ∙ c .before .if5 .taken))))))
-    (c .refused5 .ensures)
-
-returns-6 : tie.Need-returns-6
-unfolding readRefusal
-returns-6 c =
-    one-reading _ _
-    (row-skip _ _ _ (eqb-same _ _ (c .before .before .before .before .before .before .before .before .before .if1 .left))
-    (row-skip _ _ _ (ap not (sym (c .before .before .before .before .before .before .before .before .is-right .ensures) ∙ not-false _ (c .before .before .before .before .before .before .before .if2 .left)))
-    (row-skip _ _ _ (ap not (sym (c .before .before .before .before .before .before .is-edition .ensures) ∙ not-false _ (c .before .before .before .before .before .if3 .left)))
-    (row-skip _ _ _ (record-wrong _ _ (sym (c .before .before .before .before .zeros-in .ensures) ∙ not-false _ (c .before .before .before .if4 .left)) (sym (ap broken (c .before .before .record-in .ensures)) ∙ sym (c .before .is-broken .ensures) ∙ c .if5 .left))
-    (row-none)))))
-    (c .before .before .record-in .ensures)
+    let right = c .before .before in
+    let edition = right .before .before .before in
+    let zeros = edition .before .before in
+    let made = zeros .before in
+    let b = now (made .before .before .before .args .block) in
+    let k = c .before .row3 .result in
+    let fine = ap₂ (λ (x y : Bool). x && y) (zeros .zeros-in .ensures) (ap not (edition .before .is-broken .ensures ∙ ap broken (made .record-in .ensures)) ∙ Bool·not-not (sound (recordIn b))) in
+    reading-is b _ k (made .record-in .result) (c .reading-of2 .ensures)
+    (row-skip 9 _ _ (eqb-same _ _ (made .before .if1 .left))
+    (row-next 10 _ _ _ _ _ (c .before .row3 .ensures) (ap not (right .is-right .ensures))
+    (row-next 11 _ _ _ _ _ (right .before .row2 .ensures) (ap not (edition .is-edition .ensures))
+    (row-next 12 _ _ _ _ _ (right .before .before .row .ensures) (ap not fine) row-none))))
+    (ap (λ (r : Record). unless k r noRecord) (made .record-in .ensures))
 
 pub read-record-spec : {M : Type 1} → statement M
 read-record-spec =
     tie.close
     (tie.spec
     (λ c κs. search needs)
+    (λ c κs. search needs)
     returns
     (λ c κs. search needs)
     (λ c κs. search needs)
-    returns-2
-    (λ c κs. search needs)
-    (λ c κs. search needs)
-    returns-3
-    (λ c κs. search needs)
-    (λ c κs. search needs)
-    returns-4
     (λ c κs. search needs)
     (λ c κs. search needs)
     (λ c κs. search needs)
-    returns-5
-    returns-6)
+    (λ c κs. search needs)
+    (λ c κs. search needs)
+    (λ c κs. search needs)
+    (λ c κs. search needs)
+    returns-2)

@@ -25,7 +25,7 @@ loop-holds c = (omega arith, refl, refl)
 loop-again : tie.Need-loop-again Inv-loop μ-loop
 loop-again c =
     let l = c .before .before .loop in
-    let b = now (c .before .before .before .before .args .block) in (
+    let b = now (c .before .before .before .before .before .args .block) in (
       omega arith,
       length-set (l .steps) (l .k) (c .step-in .result) ∙ l .inv .1,
       fill-by (λ i. stepIn b (76 + 6 * i)) (l .steps) (l .k) (c .step-in .result) (omega arith) (l .inv .2) (c .step-in .ensures),
@@ -34,7 +34,7 @@ loop-again c =
 returns : tie.Need-returns Inv-loop μ-loop
 returns c =
     let l = c .before .loop in
-    let b = now (c .before .before .before .args .block) in
+    let b = now (c .before .before .before .before .args .block) in
     let e : l .k ≡ 64 = omega arith in
     sym (take-all (l .k) (l .steps) (omega arith)) ∙ l .inv .2 ∙ ap (λ (n : ℕ). map (λ i. stepIn b (76 + 6 * i)) (upto n)) e
 
@@ -44,6 +44,7 @@ steps-in-spec =
     (tie.spec
     Inv-loop
     μ-loop
+    (λ c κs. search needs)
     loop-holds
     (λ c. search needs)
     (λ c. search needs)
