@@ -3,10 +3,9 @@
 use mathlib.Core.Path.{_≡_, refl, sym, ap, ap₂, _∙_}
 use mathlib.Core.Bool.{Bool, true, false, not, _&&_, _||_, and-assoc, or-false, Bool·not-not}
 use mathlib.Core.List.{[], _∷_, _++_, map, map-append}
-use Prim.Native.Nat.{ℕ, suc, _+_, _^_, _<_, _≤_}
+use Prim.Native.Nat.{ℕ, suc, _+_, _^_, _<_}
 use native.Mathlib.Omega.{arith}
 use native.Mathlib.Nat.{zero-add}
-use native.Mathlib.Numerals.{add-one}
 use lib.Bits.{bitOr}
 use lib.Dec.{ltb, leb, eqb}
 use lib.ListN.{drop}
@@ -19,16 +18,16 @@ use Rattle.whole.specs.Tests.{and-true}
 use Rattle.rules.specs.Record.{stateAt, stepAt, decided, ascending, nearOf, nearFine, choiceLimit, stepFine, stepped}
 use Rattle.rules.specs.declared.Step.{Step}
 use Rattle.rules.specs.declared.Record.{Record}
-use Rattle.broken.specs.Masks.{single, Picks, Known, isUnfixed, isEliminated, nearBy, stepBy}
-use Rattle.broken.proofs.Places.{places}
+use Rattle.broken.specs.Masks.{alone, Picks, MasksOf, stepAsked}
+use Rattle.broken.proofs.Places.{three-places}
 
 -- the mask shows the decisions of the first k steps
-abbrev pub Shows : Record → ℕ → ℕ → Type 0
-Shows r k m = Picks m (λ j. mem j (decided r k))
+abbrev pub HasDecided : Record → ℕ → ℕ → Type 0
+HasDecided r k m = Picks m (λ j. mem j (decided r k))
 
-pub shows-none : (r : Record) → Shows r 0 0
+pub decided-none : (r : Record) → HasDecided r 0 0
 unfolding mem from
-shows-none r j = bit-none j
+decided-none r j = bit-none j
 
 under : (x : Bool) {a b : Bool} → (x ≡ true → a ≡ b) → (x && a) ≡ (x && b)
 under true h = h refl
@@ -48,48 +47,48 @@ tests s p = allOf (
     ∷ ltb (s .choices) (choiceLimit (s .degree))
     ∷ [])
 
-module _ (r : Record) (k m : ℕ) (h : Shows r k m) where
+module _ (r : Record) (k m : ℕ) (h : HasDecided r k m) where
   abbrev d : ℕ
   d = stepAt r k .decision
 
   -- one step more
-  pub shows-more : d < 64 → Shows r (suc k) (bitOr m (single d))
+  pub decided-more : d < 64 → HasDecided r (suc k) (bitOr m (alone d))
   unfolding mem
-  shows-more l j =
+  decided-more l j =
       let f : ℕ → ℕ = λ i. stepAt r i .decision in
       let e : decided r (suc k) ≡ (decided r k ++ (d ∷ [])) = ap (map f) (from-last 0 k) ∙ map-append f (upto k) ((0 + k) ∷ []) ∙ ap (λ (i : ℕ). decided r k ++ (f i ∷ [])) (zero-add k) in
-      let b : bit (single d) j ≡ (eqb j d || false) = rw (lt-ltb d 64 l) (bit-single d j ∙ sym (or-false (eqb j d))) in
-      bit-or m (single d) j ∙ ap₂ (λ (x y : Bool). x || y) (h j) b ∙ sym (ap (mem j) e ∙ mem-append j (decided r k) (d ∷ []))
+      let b : bit (alone d) j ≡ (eqb j d || false) = rw (lt-ltb d 64 l) (bit-single d j ∙ sym (or-false (eqb j d))) in
+      bit-or m (alone d) j ∙ ap₂ (λ (x y : Bool). x || y) (h j) b ∙ sym (ap (mem j) e ∙ mem-append j (decided r k) (d ∷ []))
 
-  module _ {u e : ℕ} (g : Known r u e) where
+  module _ {u e : ℕ} (g : MasksOf r u e) where
     -- the eliminated that no step so far has
     due : Picks (without e m) (λ j. ltb j (r .n) && (eqb (stateAt r j) 3 && not (mem j (decided r k))))
     due j = bit-less e m j ∙ ap₂ (λ (x y : Bool). x && not y) (g .eliminated j) (h j) ∙ and-assoc (ltb j (r .n)) (eqb (stateAt r j) 3) (not (mem j (decided r k)))
 
     -- those that may be neighbours
-    free : d < 64 → Picks (without u (bitOr m (single d))) (nearFine r k)
-    free l j = bit-less u (bitOr m (single d)) j ∙ ap₂ (λ (x y : Bool). x && not y) (g .unfixed j) (shows-more l j)
+    free : d < 64 → Picks (without u (bitOr m (alone d))) (nearFine r k)
+    free l j = bit-less u (bitOr m (alone d)) j ∙ ap₂ (λ (x y : Bool). x && not y) (g .unfixed j) (decided-more l j)
 
     below : (t : Bool) → (ltb d (r .n) && t) ≡ true → d < 64
     below t h = omega (arith, g .low, ltb-true d (r .n) (and-true (ltb d (r .n)) t h .0))
 
-    pub decides : stepFine r k ≡ true → d < 64
+    pub low-decision : stepFine r k ≡ true → d < 64
     unfolding stepFine allOf
-    decides h = below _ h
+    low-decision h = below _ h
 
     -- the tests of step k, all of masks
-    pub asked : stepBy (without e m) (without u (bitOr m (single d))) (stepAt r k) ≡ stepFine r k
+    pub step-asked : stepAsked (without e m) (without u (bitOr m (alone d))) (stepAt r k) ≡ stepFine r k
     unfolding stepFine allOf
-    asked =
+    step-asked =
         let s = stepAt r k in
-        let f = without u (bitOr m (single d)) in
+        let f = without u (bitOr m (alone d)) in
         let c = ltb (s .choices) (choiceLimit (s .degree)) in
         under (bit (without e m) d) (λ t.
-        places (bit f) (s .first) (s .second) (s .third) c (s .degree) ∙ ap (tests s) (λ i j. free (below _ (sym (due d) ∙ t)) j i))
+        three-places (bit f) (s .first) (s .second) (s .third) c (s .degree) ∙ ap (tests s) (λ i j. free (below _ (sym (due d) ∙ t)) j i))
         ∙ ap (λ (b : Bool). b && tests s (nearFine r k)) (due d) ∙ simp and-assoc
 
     -- at the end: each eliminated decision is some step's
-    pub ended : (x : ℕ) → x ≡ without e m → x < 2 ^ 64 → k ≡ r .count → eqb x 0 ≡ all (stepped r) (upto (r .n))
-    ended x w l q =
+    pub all-stepped : (x : ℕ) → x ≡ without e m → x < 2 ^ 64 → k ≡ r .count → eqb x 0 ≡ all (stepped r) (upto (r .n))
+    all-stepped x w l q =
         none-passes (λ j. eqb (stateAt r j) 3 && not (mem j (decided r k))) (r .n) x l (λ j. ap (λ (y : ℕ). bit y j) w ∙ due j)
         ∙ ap (λ (p : ℕ → Bool). all p (upto (r .n))) (λ i j. (turned (eqb (stateAt r j) 3) (mem j (decided r k)) ∙ ap (λ (c : ℕ). not (eqb (stateAt r j) 3) || mem j (decided r c)) q) i)

@@ -1,9 +1,9 @@
--- A step's three places, and the constant, as the code tests them.
+-- A step's three three-places, and the constant, as the code tests them.
 -- Assumes nothing.
-use mathlib.Core.Path.{_≡_, refl, sym, ap, _∙_}
-use mathlib.Core.Bool.{Bool, true, false, cond, _&&_, _||_, and-assoc, and-true, and-false}
+use mathlib.Core.Path.{_≡_, refl, sym, _∙_}
+use mathlib.Core.Bool.{Bool, cond, _&&_, _||_, and-assoc, and-true, and-false}
 use mathlib.Core.List.{List, [], _∷_}
-use Prim.Native.Nat.{ℕ, zero, suc, _<_, _≤_}
+use Prim.Native.Nat.{ℕ, zero, suc}
 use native.Mathlib.Omega.{arith}
 use lib.Dec.{ltb, leb, eqb, leb·suc-suc}
 use lib.ListN.{take, drop}
@@ -24,17 +24,17 @@ module _ (p : ℕ → Bool) (x y z : ℕ) (c : Bool) where
       (λ a. cases (ltb y z) (λ b. rw (a, b, lt-ltb x z (omega (arith, ltb-true x y a, ltb-true y z b)))) (λ b. rw (a, b) (sym (and-false (ltb x z)))))
       (λ a. rw a)
 
-  pub places : (d : ℕ)
+  pub three-places : (d : ℕ)
       → (leb d 3 && (((ltb d 2 || ltb x y) && (ltb d 3 || ltb y z)) && (cond (ltb 0 d) (p x) (eqb x 0) && (cond (ltb 1 d) (p y) (eqb y 0) && (cond (ltb 2 d) (p z) (eqb z 0) && c)))))
       ≡ allOf (leb d 3 ∷ ascending (take d three) ∷ all p (take d three) ∷ all (λ b. eqb b 0) (drop d three) ∷ c ∷ [])
   unfolding ascending all allOf
-  places zero = simp (and-assoc, and-true)
-  places (suc zero) = simp (and-assoc, and-true)
-  places (suc (suc zero)) = simp (and-assoc, and-true)
-  places (suc (suc (suc zero))) = simp (and-assoc, and-true) (past (p x && (p y && (p z && c))))
-  places (suc (suc (suc (suc d)))) = rw (lt-leb (suc (suc (suc (suc d)))) 3 (omega arith))
+  three-places zero = simp (and-assoc, and-true)
+  three-places (suc zero) = simp (and-assoc, and-true)
+  three-places (suc (suc zero)) = simp (and-assoc, and-true)
+  three-places (suc (suc (suc zero))) = simp (and-assoc, and-true) (past (p x && (p y && (p z && c))))
+  three-places (suc (suc (suc (suc d)))) = rw (lt-leb (suc (suc (suc (suc d)))) 3 (omega arith))
 
--- "the constant is within ±2^40"
-pub within : (z : ℤ) → (leZ (negsuc 1099511627775) z && leZ z (pos 1099511627776)) ≡ leb (natAbs z) 1099511627776
-within (pos a) = refl
-within (negsuc a) = and-true (leb a 1099511627775) ∙ sym (leb·suc-suc a 1099511627775)
+-- "the constant is within-limit ±2^40"
+pub within-limit : (z : ℤ) → (leZ (negsuc 1099511627775) z && leZ z (pos 1099511627776)) ≡ leb (natAbs z) 1099511627776
+within-limit (pos a) = refl
+within-limit (negsuc a) = and-true (leb a 1099511627775) ∙ sym (leb·suc-suc a 1099511627775)

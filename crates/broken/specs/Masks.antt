@@ -3,7 +3,7 @@
 use mathlib.Core.Path.{_≡_}
 use mathlib.Core.Bool.{Bool, cond, _&&_, _||_}
 use mathlib.Core.List.{List}
-use Prim.Native.Nat.{ℕ, _^_, _<_, _≤_}
+use Prim.Native.Nat.{ℕ, _^_, _≤_}
 use lib.Dec.{ltb, leb, eqb}
 use lib.ListN.{getD}
 use Rattle.whole.specs.Words.{bit, upto, all}
@@ -13,8 +13,8 @@ use Rattle.rules.specs.declared.Record.{Record}
 use Rattle.broken.specs.declared.States.{States}
 
 -- the mask of j alone; none has a decision from 64 on
-abbrev pub single : ℕ → ℕ
-single j = cond (ltb j 64) (2 ^ j) 0
+abbrev pub alone : ℕ → ℕ
+alone j = cond (ltb j 64) (2 ^ j) 0
 
 -- the decisions below n that are not fixed, and those that are eliminated
 abbrev pub isUnfixed : List ℕ → ℕ → ℕ → Bool
@@ -33,25 +33,25 @@ pub record Sorted (states : List ℕ) (n : ℕ) (s : States) : Type 0 where
   pub eliminated : Picks (s .eliminated) (isEliminated states n)
 
 -- what the walk along the steps is given
-pub record Known (r : Record) (u e : ℕ) : Type 0 where
+pub record MasksOf (r : Record) (u e : ℕ) : Type 0 where
   pub low : r .n ≤ 64
   pub few : r .count ≤ 64
   pub unfixed : Picks u (isUnfixed (r .states) (r .n))
   pub eliminated : Picks e (isEliminated (r .states) (r .n))
 
 -- one of a step's three places, used or not
-abbrev pub placeFine : ℕ → Bool → ℕ → Bool
-placeFine free used j = cond used (bit free j) (eqb j 0)
+abbrev pub placeAsked : ℕ → Bool → ℕ → Bool
+placeAsked free used j = cond used (bit free j) (eqb j 0)
 
 -- a step's degree, neighbours and unused bytes and bits
-abbrev pub nearBy : ℕ → Step → Bool
-nearBy free s =
+abbrev pub nearAsked : ℕ → Step → Bool
+nearAsked free s =
     leb (s .degree) 3
     && (((ltb (s .degree) 2 || ltb (s .first) (s .second)) && (ltb (s .degree) 3 || ltb (s .second) (s .third)))
-    && (placeFine free (ltb 0 (s .degree)) (s .first)
-    && (placeFine free (ltb 1 (s .degree)) (s .second)
-    && (placeFine free (ltb 2 (s .degree)) (s .third)
+    && (placeAsked free (ltb 0 (s .degree)) (s .first)
+    && (placeAsked free (ltb 1 (s .degree)) (s .second)
+    && (placeAsked free (ltb 2 (s .degree)) (s .third)
     && ltb (s .choices) (choiceLimit (s .degree))))))
 
-abbrev pub stepBy : ℕ → ℕ → Step → Bool
-stepBy due free s = bit due (s .decision) && nearBy free s
+abbrev pub stepAsked : ℕ → ℕ → Step → Bool
+stepAsked due free s = bit due (s .decision) && nearAsked free s

@@ -1,14 +1,13 @@
 // "A body is broken unless ..."
 ghost use mathlib.Core.Path.{_≡_};
 ghost use mathlib.Core.Bool.{cond, _&&_};
-ghost use mathlib.Core.List.{[], _∷_};
-ghost use Prim.Native.Nat.{_-_, _^_, _≤_};
+ghost use Prim.Native.Nat.{_-_, _≤_};
 ghost use lib.Dec.{leb, ltb, eqb};
 ghost use lib.IntN.{natAbs};
-ghost use lib.ListN.{length, getD, drop};
+ghost use lib.ListN.{length, getD};
 ghost use Rattle.whole.specs.Words.{from, upto, all, bit};
 ghost use Rattle.rules.specs.Record.{isNone, stepAt, choiceLimit, stepFine, stepped, broken};
-ghost use Rattle.broken.specs.Masks.{single, placeFine, Sorted, Known, nearBy, stepBy};
+ghost use Rattle.broken.specs.Masks.{alone, placeAsked, Sorted, MasksOf, nearAsked, stepAsked};
 use rules::Record;
 use rules::Step;
 
@@ -26,7 +25,7 @@ fn has(m: u64, j: u8) -> bool
 
 // The mask of j alone.
 fn only(j: u8) -> u64
-    ensures { λ m. ⌜ m ≡ single j ⌝ }
+    ensures { λ m. ⌜ m ≡ alone j ⌝ }
 {
     if j >= 64 {
         return 0;
@@ -34,6 +33,7 @@ fn only(j: u8) -> u64
     1 << j
 }
 
+// The mask m where it is held, else none.
 fn mask_if(held: bool, m: u64) -> u64
     ensures { λ r. ⌜ r ≡ cond held m 0 ⌝ }
 {
@@ -89,7 +89,7 @@ pub fn zero_bytes(bytes: &[u8], start: usize, end: usize) -> bool
 
 // One of a step's three places: a free neighbour where it is used, else zero.
 fn place_fine(free: u64, used: bool, j: u8) -> bool
-    ensures { λ b. ⌜ b ≡ placeFine free used j ⌝ }
+    ensures { λ b. ⌜ b ≡ placeAsked free used j ⌝ }
 {
     if used {
         return has(free, j);
@@ -111,7 +111,7 @@ fn choices_fine(d: u8, choices: u8) -> bool
 
 // The degree, the neighbours, and what is unused.
 fn near_fine(free: u64, s: Step) -> bool
-    ensures { λ b. ⌜ b ≡ nearBy free s ⌝ }
+    ensures { λ b. ⌜ b ≡ nearAsked free s ⌝ }
 {
     let d = s.degree;
     let first = place_fine(free, d > 0, s.first);
@@ -124,14 +124,14 @@ fn near_fine(free: u64, s: Step) -> bool
 
 // A step: `due` has the eliminated decisions that no earlier step has, `free` those that may be its neighbours.
 fn step_fine(due: u64, free: u64, s: Step) -> bool
-    ensures { λ b. ⌜ b ≡ stepBy due free s ⌝ }
+    ensures { λ b. ⌜ b ≡ stepAsked due free s ⌝ }
 {
     has(due, s.decision) & near_fine(free, s)
 }
 
 // Each step is fine, and each eliminated decision is some step's. `decided` has the decisions of the steps so far.
 fn steps_fine(r: Record, unfixed: u64, eliminated: u64) -> bool
-    requires { ⌜ Known r unfixed eliminated ⌝ }
+    requires { ⌜ MasksOf r unfixed eliminated ⌝ }
     ensures { λ b. ⌜ b ≡ (all (stepFine r) (upto (r .count)) && all (stepped r) (upto (r .n))) ⌝ }
 {
     let count = r.count as usize;
@@ -173,6 +173,7 @@ fn rest_unused(r: Record) -> bool
     unused
 }
 
+// "the constant is within ±2^40"
 fn constant_fine(z: i64) -> bool
     ensures { λ b. ⌜ b ≡ leb (natAbs z) 1099511627776 ⌝ }
 {

@@ -7,18 +7,17 @@ use Prim.Native.Nat.{ℕ, suc, _+_, _*_, _-_, _/_, _%_, _^_, _<_, _≤_}
 use native.Mathlib.Omega.{arith}
 use native.Mathlib.Nat.{pow-le-pow-right, sub-eq-zero-of-le, sub-self}
 use native.Mathlib.Numerals.{add-one}
-use lib.Dec.{eqb}
 use lib.ListN.{length, getD, take, drop, set, length-take, drop-of-length-le}
 use lib.Seq.{sets, drop-cons}
 use lib.IntN.{ℤ, pos, negsuc, natAbs, _+ℤ_, _-ℤ_}
 use lib.Signed.{ltZ}
 use mir.Syntax.{w64}
 use mir.Val.{toZ}
-use borrow.Author.Tests.{lt-ltb, le-ltb, ltb-true, eq-eqb, ne-eqb}
+use borrow.Author.Tests.{lt-ltb, le-ltb, ltb-true}
 use Rattle.whole.specs.Ints.{ints, abs-step}
 use Rattle.whole.specs.Counts.{one-left, next-place}
 use Rattle.record_laws.specs.Bytes.{Bytes, bytes-front, from-below}
-use Rattle.rules.specs.Record.{little, fromLittle, twos, fromTwos, sums, check, checkRight}
+use Rattle.rules.specs.Record.{little, fromLittle, twos, fromTwos, sums}
 
 -- ---- writing: the lowest byte, then the rest
 pub little-next : (l : List ℕ) (at k n v : ℕ) → k < n → sets l (at + k) (little (n - k) v) ≡ sets (set l (at + k) (v % 256)) (at + (k + 1)) (little (n - (k + 1)) (v / 256))

@@ -2,12 +2,11 @@
 -- Assumes nothing.
 use mathlib.Core.Path.{_≡_, refl, ap, _∙_}
 use mathlib.Core.List.{List, [], _∷_, _++_, append-assoc}
-use Prim.Native.Nat.{ℕ, _+_, _*_}
+use Prim.Native.Nat.{ℕ, _+_}
 use native.Mathlib.Omega.{arith}
 use lib.ListN.{length, take, replicate, length-append}
 use lib.Seq.{sets}
-use Rattle.rules.specs.Record.{edition, stepBytes, stepsBytes, little, twos, body, check, sealed}
-use Rattle.rules.specs.declared.Step.{Step}
+use Rattle.rules.specs.Record.{edition, stepsBytes, little, twos, body, check, sealed}
 use Rattle.rules.specs.declared.Record.{Record}
 use Rattle.record_laws.specs.Bytes.{little-length}
 use Rattle.record_laws.specs.Fields.{Held, steps-length, body-length}

@@ -1,4 +1,4 @@
-use mathlib.Core.Path.{_≡_, refl, ap, ap₂, _∙_}
+use mathlib.Core.Path.{refl, ap, ap₂, _∙_}
 use mathlib.Core.Bool.{Bool, not, _&&_, Bool·not-not}
 use borrow.Author.Needs.{needs}
 use denote.Ref.{now}

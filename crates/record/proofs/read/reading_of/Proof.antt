@@ -1,4 +1,4 @@
-use mathlib.Core.Path.{_≡_, refl, _∙_}
+use mathlib.Core.Path.{refl, _∙_}
 use borrow.Author.Needs.{needs}
 use Rattle.record.proofs.Rows.{unless-other}
 use Rattle.record.proofs.read.reading_of.Statement.{statement}

@@ -6,8 +6,10 @@ use Rattle.record.proofs.sums.put_sums.Tie as tie
 
 returns : tie.Need-returns
 returns c =
-    let s = c .before .before .before .before .before .before .before .before .before .before .before .before .before in
-    put-check (now (s .args .block)) _ _ _ _ (s .pre) (c .before .before .before .before .before .before .before .before .before .before .sums-of .ensures .0) (c .before .before .before .before .before .before .before .before .before .before .sums-of .ensures .1) (c .before .before .before .before .before .before .before .put-little .ensures) (c .before .before .put-little2 .ensures)
+    let first = c .before .before .before .before .before .before .before in
+    let made = first .before .before .before in
+    let s = made .before .before .before in
+    put-check (now (s .args .block)) _ _ _ _ (s .pre) (made .sums-of .ensures .0) (made .sums-of .ensures .1) (first .put-little .ensures) (c .before .before .put-little2 .ensures)
 
 pub put-sums-spec : {M : Type 1} → statement M
 put-sums-spec =

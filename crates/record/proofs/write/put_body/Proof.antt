@@ -1,4 +1,4 @@
-use mathlib.Core.Path.{_≡_, ap, _∙_}
+use mathlib.Core.Path.{ap, _∙_}
 use borrow.Author.Needs.{needs}
 use denote.Ref.{now}
 use mir.Syntax.{w64}
@@ -14,18 +14,21 @@ use Rattle.record.proofs.write.put_body.Tie as tie
 held : (c : tie.Start) → Held (c .args .r)
 held c = record { states = search needs; steps = search (needs, length-mapped) }
 
--- the constant as the call has it
-told : (c : tie.After-to-twos) → c .to-twos .result ≡ twos (c .before .before .before .before .before .before .before .before .args .r .constant)
-told c =
-    let z = c .before .before .before .before .before .before .before .before .args .r .constant in
-    let f : SFits w64 z = search needs in
-    c .to-twos .ensures ∙ ap twos (rd f)
+small : (c : tie.Start) → SFits w64 (c .args .r .constant)
+small c = search needs
 
 returns : tie.Need-returns
 returns c =
-    let s = c .before .before .before .before .before .before .before .before .before .before .before .before .before .before .before .before .before .before .before .before .before .before .before in
+    let zeros = c .before .before in
+    let steps = zeros .before .before .before .before in
+    let states = steps .before .before .before .before in
+    let little = states .before .before .before .before in
+    let made = little .before in
+    let head = made .before .before .before .before .before in
+    let s = head .before .before .before in
     let r = s .args .r in
-    put-all r (held s) (now (s .args .block)) _ _ _ _ _ _ (told (c .before .before .before .before .before .before .before .before .before .before .before .before .before .before .before)) (c .before .before .before .before .before .before .before .before .before .before .before .before .before .before .before .before .before .before .before .before .put-head .ensures) (c .before .before .before .before .before .before .before .before .before .before .before .before .before .before .put-little .ensures) (c .before .before .before .before .before .before .before .before .before .before .put-states .ensures) (c .before .before .before .before .before .before .put-steps .ensures) (c .before .before .put-zeros .ensures)
+    put-all r (held s) (now (s .args .block)) _ _ _ _ _ _ (made .to-twos .ensures ∙ ap twos (rd (small s)))
+    (head .put-head .ensures) (little .put-little .ensures) (states .put-states .ensures) (steps .put-steps .ensures) (zeros .put-zeros .ensures)
 
 pub put-body-spec : {M : Type 1} → statement M
 put-body-spec =

@@ -22,8 +22,9 @@ loop-holds c = (omega arith, refl, refl)
 
 loop-again : tie.Need-loop-again Inv-loop μ-loop
 loop-again c =
-    let l = c .before .before .before .before .before .before .loop in
-    let ss = c .before .before .before .before .before .before .before .before .args .t2 .steps in
+    let turn = c .before .before .before .before .before .before in
+    let l = turn .loop in
+    let ss = turn .before .before .args .t2 .steps in
     let n : length ss ≡ 64 = search (needs, length-mapped) in (
       omega arith,
       c .before .before .put-step .kept .0 ∙ l .inv .1,
