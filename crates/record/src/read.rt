@@ -114,7 +114,7 @@ pub fn read_record(block: &[u8]) -> Reading
     }
     let record = record_in(block);
     let fine = zeros_in(block) & !broken::is_broken(record);
-    let eleven = rows::row(11, !is_edition(block), rows::row(12, !fine, 0));
-    let ten = rows::row(10, !sums::is_right(block), eleven);
+    let eleven = refusal::row(11, !is_edition(block), refusal::row(12, !fine, 0));
+    let ten = refusal::row(10, !sums::is_right(block), eleven);
     reading_of(ten, record)
 }
