@@ -1,7 +1,6 @@
 // One byte, one number, and the place after it.
 ghost use mathlib.Core.Path.{_≡_};
 ghost use Prim.Native.Nat.{_≤_};
-ghost use lib.IntN.{pos};
 
 // No line is this long.
 pub const LOST: usize = 18_446_744_073_709_551_615;
@@ -35,12 +34,6 @@ pub fn pass(line: &[u8], at: usize, b: u8) -> usize {
     LOST
 }
 
-fn wide(b: u8) -> u64
-    ensures { λ r. ⌜ r ≡ b ⌝ }
-{
-    b as u64
-}
-
 // A number has a digit.
 fn ended(at: usize, value: u64, next: usize) -> Found {
     if next == at {
@@ -67,7 +60,7 @@ pub fn number(line: &[u8], at: usize) -> Found {
         if 1844674407370955160 < value {
             return nothing();
         }
-        value = 10 * value + (wide(b) - 48);
+        value = 10 * value + (whole::wide(b) - 48);
         i = i + 1;
     }
     nothing()
@@ -93,19 +86,12 @@ pub fn bits(line: &[u8], at: usize) -> Found {
     }
 }
 
-fn plain(v: u64) -> i64
-    requires { ⌜ v ≤ 9223372036854775807 ⌝ }
-    ensures { λ r. ⌜ r ≡ pos v ⌝ }
-{
-    v as i64
-}
-
 // What 64 bits of two's complement write.
 pub fn signed(v: u64) -> i64 {
     if v <= 9223372036854775807 {
-        plain(v)
+        decimal::plain(v)
     } else {
-        -1 - plain(18446744073709551615 - v)
+        decimal::opposite(18446744073709551615 - v + 1)
     }
 }
 

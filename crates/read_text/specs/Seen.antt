@@ -5,11 +5,11 @@ use mathlib.Core.List.{List}
 use lib.ListN.{length, take, drop}
 use lib.IntN.{ℤ}
 use Rattle.rules.specs.ReadText.{Read, got, bad, Head, Terms, Input, given, refused, objectiveOf}
-use Rattle.read_text.specs.declared.Number.{Number}
 use Rattle.read_text.specs.declared.Byte.{Byte}
 use Rattle.read_text.specs.declared.Byte.the-variants as byte
 use Rattle.read_text.specs.declared.Parsed.{Parsed}
 use Rattle.read_text.specs.declared.Parsed.the-variants as parsed
+use Rattle.read_text.specs.declared.Text.{Text}
 use Rattle.read_text.specs.declared.Narrow.{Narrow}
 use Rattle.read_text.specs.declared.Narrow.the-variants as narrow
 use Rattle.read_text.specs.declared.Head as code
@@ -17,21 +17,6 @@ use Rattle.read_text.specs.declared.First.{First}
 use Rattle.read_text.specs.declared.First.the-variants as first
 use Rattle.read_text.specs.declared.Line.{Line}
 use Rattle.read_text.specs.declared.Line.the-variants as line
-use Rattle.read_text.specs.declared.Weight.{Weight}
-use Rattle.read_text.specs.declared.Weight.the-variants as weight
-use Rattle.read_text.specs.declared.Number.the-variants.{Value, Malformed}
-
-abbrev pub seen : List ℕ → Number → Read ℕ
-seen t (Value v next) = got v (drop next t)
-seen t Malformed = bad
-
-abbrev pub within : ℕ → Number → Type 0
-within max (Value v next) = v ≤ max
-within max Malformed = Unit
-
-abbrev pub seenZ : List ℕ → Weight → Read ℤ
-seenZ t (weight.Value v next) = got v (drop next t)
-seenZ t weight.Malformed = bad
 
 -- xs was read
 abbrev pub seenLine : {A : Type 0} → List ℕ → List A → Line → Read (List A)
@@ -58,8 +43,8 @@ abbrev pub seenTerms : List ℕ → List ℕ → List ℕ → List ℤ → Line 
 seenTerms t is js ws (line.Read next) = got (record { is = is; js = js; ws = ws }) (drop next t)
 seenTerms t is js ws line.Malformed = bad
 
--- the arrays that the caller lends
-pub record Lent (ps : List ℤ) (fs is js : List ℕ) (ws : List ℤ) : Type 0 where
+-- how long the arrays are
+pub record Lengths (ps : List ℤ) (fs is js : List ℕ) (ws : List ℤ) : Type 0 where
   pub weights : length ps ≡ 64
   pub fixings : length fs ≡ 64
   pub firsts : length is ≡ 1024
@@ -77,7 +62,12 @@ Few (parsed.Given h) = (h .n ≤ 64) × (h .terms ≤ 1024)
 Few (parsed.Refused k) = Unit
 
 -- the answer r, with what it left in the arrays, is the input i
-pub record Parses (ps : List ℤ) (fs is js : List ℕ) (ws : List ℤ) (r : Parsed) (i : Input) : Type 0 where
+pub record ParsesInto (ps : List ℤ) (fs is js : List ℕ) (ws : List ℤ) (r : Parsed) (i : Input) : Type 0 where
   pub reads : seenInput ps fs is js ws r ≡ i
   pub few : Few r
-  pub lent : Lent ps fs is js ws
+  pub long : Lengths ps fs is js ws
+
+-- the text r, read, is the input i
+pub record Parses (r : Text) (i : Input) : Type 0 where
+  pub reads : seenInput (r .weights) (r .fixings) (r .firsts) (r .seconds) (r .«term_weights») (r .parsed) ≡ i
+  pub few : Few (r .parsed)

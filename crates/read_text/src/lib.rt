@@ -1,103 +1,13 @@
 // Readers of the program's text: a cursor by value, and an enum for the answer.
+use decimal::Number;
+use decimal::Signed;
 ghost use mathlib.Core.Path.{_≡_};
-ghost use Prim.Native.Nat.{ℕ, _+_, _*_, _<_, _≤_};
+ghost use Prim.Native.Nat.{ℕ, _≤_};
 ghost use lib.ListN.{length, take, drop};
 ghost use mathlib.Core.List.{List, [], _∷_};
-ghost use lib.IntN.{ℤ, pos, negℤ};
-ghost use Rattle.rules.specs.ReadText.{Read, got, bad, number, number8, number32, weight, ender, line, empty, head, terms, afterWeights, input};
-ghost use Rattle.read_text.specs.Seen.{seen, seenZ, seen32, seen8, within, seenLine, headOf, seenHead, seenTerms, Lent, Parses};
-
-// A number and where to read on.
-pub enum Number {
-    Value(u64, usize),
-    Malformed,
-}
-
-fn wide(b: u8) -> u64
-    ensures { λ r. ⌜ r ≡ b ⌝ }
-{
-    b as u64
-}
-
-// The number at `at`, of any count of digits, with the byte `end` after it.
-pub fn read_number(text: &[u8], at: usize, max: u64, end: u8) -> Number
-    requires { ⌜ (9 ≤ max) × (end < 48) ⌝ }
-    ensures reads { λ r. ⌜ seen (now (text .entry)) r ≡ number max end (drop at (now (text .entry))) ⌝ }
-    ensures small { λ r. ⌜ within max r ⌝ }
-{
-    if text.len() <= at {
-        return Number::Malformed;
-    }
-    let first = text[at];
-    if first < 48 {
-        return Number::Malformed;
-    }
-    if 57 < first {
-        return Number::Malformed;
-    }
-    let mut v = wide(first) - 48;
-    let mut i = at + 1;
-    while i < text.len() {
-        let b = text[i];
-        if b < 48 {
-            if b == end {
-                return Number::Value(v, i + 1);
-            }
-            return Number::Malformed;
-        }
-        if 57 < b {
-            return Number::Malformed;
-        }
-        let d = wide(b) - 48;
-        if (max - d) / 10 < v {
-            return Number::Malformed;
-        }
-        v = 10 * v + d;
-        i = i + 1;
-    }
-    Number::Malformed
-}
-
-// A weight and where to read on.
-pub enum Weight {
-    Value(i64, usize),
-    Malformed,
-}
-
-// v as it stands, and its opposite.
-fn plain(v: u64) -> i64
-    requires { ⌜ v ≤ 9223372036854775807 ⌝ }
-    ensures { λ r. ⌜ r ≡ pos v ⌝ }
-{
-    v as i64
-}
-
-fn opposite(v: u64) -> i64
-    requires { ⌜ v ≤ 9223372036854775808 ⌝ }
-    ensures { λ r. ⌜ r ≡ negℤ (pos v) ⌝ }
-{
-    if v == 0 { 0 } else { -1 - plain(v - 1) }
-}
-
-pub fn read_weight(text: &[u8], at: usize, end: u8) -> Weight
-    requires { ⌜ end < 48 ⌝ }
-    ensures { λ r. ⌜ seenZ (now (text .entry)) r ≡ weight end (drop at (now (text .entry))) ⌝ }
-{
-    if text.len() <= at {
-        return Weight::Malformed;
-    }
-    if text[at] == 45 {
-        match read_number(text, at + 1, 9223372036854775808, end) {
-            Number::Value(v, next) => Weight::Value(opposite(v), next),
-            Number::Malformed => Weight::Malformed,
-        }
-    } else {
-        match read_number(text, at, 9223372036854775807, end) {
-            Number::Value(v, next) => Weight::Value(plain(v), next),
-            Number::Malformed => Weight::Malformed,
-        }
-    }
-}
+ghost use lib.IntN.{ℤ};
+ghost use Rattle.rules.specs.ReadText.{number8, number32, weight, ender, line, empty, head, terms, afterWeights, input};
+ghost use Rattle.read_text.specs.Seen.{seen32, seen8, seenLine, headOf, seenHead, seenTerms, Lengths, ParsesInto, Parses};
 
 // A line that was read, and where to read on.
 pub enum Line {
@@ -108,7 +18,6 @@ pub enum Line {
 // What ends a number with this many more to come on its line.
 fn end_of(more: usize) -> u8
     ensures { λ r. ⌜ r ≡ ender more ⌝ }
-    ensures { λ r. ⌜ r < 48 ⌝ }
 {
     if more == 0 { 10 } else { 32 }
 }
@@ -138,7 +47,7 @@ pub fn read_weights(text: &[u8], at: usize, n: usize, out: &mut [i64; 64]) -> Li
     let mut p = at;
     let mut i = 0;
     while i < n {
-        let Weight::Value(w, next) = read_weight(text, p, end_of(n - i - 1)) else {
+        let Signed::Value(w, next) = decimal::read_signed(text, p, end_of(n - i - 1)) else {
             return Line::Malformed;
         };
         out[i] = w;
@@ -155,10 +64,9 @@ pub enum Narrow {
 }
 
 pub fn read_u32(text: &[u8], at: usize, end: u8) -> Narrow
-    requires { ⌜ end < 48 ⌝ }
     ensures { λ r. ⌜ seen32 (now (text .entry)) r ≡ number32 end (drop at (now (text .entry))) ⌝ }
 {
-    match read_number(text, at, 4294967295, end) {
+    match decimal::read_number(text, at, 4294967295, end) {
         Number::Value(v, next) => Narrow::Value(v as u32, next),
         Number::Malformed => Narrow::Malformed,
     }
@@ -210,10 +118,9 @@ pub enum Byte {
 }
 
 pub fn read_u8(text: &[u8], at: usize, end: u8) -> Byte
-    requires { ⌜ end < 48 ⌝ }
     ensures { λ r. ⌜ seen8 (now (text .entry)) r ≡ number8 end (drop at (now (text .entry))) ⌝ }
 {
-    match read_number(text, at, 255, end) {
+    match decimal::read_number(text, at, 255, end) {
         Number::Value(v, next) => Byte::Value(v as u8, next),
         Number::Malformed => Byte::Malformed,
     }
@@ -263,7 +170,7 @@ pub fn read_terms(
         let Narrow::Value(j, b) = read_u32(text, a, 32) else {
             return Line::Malformed;
         };
-        let Weight::Value(w, c) = read_weight(text, b, 10) else {
+        let Signed::Value(w, c) = decimal::read_signed(text, b, 10) else {
             return Line::Malformed;
         };
         firsts[m] = i;
@@ -292,8 +199,8 @@ fn read_lists(
     seconds: &mut [u32; 1024],
     term_weights: &mut [i64; 1024],
 ) -> Parsed
-    requires { ⌜ (h .n ≤ 64) × (h .terms ≤ 1024) × Lent (now weights) (now fixings) (now firsts) (now seconds) (now «term_weights») ⌝ }
-    ensures { λ r. ⌜ Parses (now (weights .exit)) (now (fixings .exit)) (now (firsts .exit)) (now (seconds .exit)) (now («term_weights» .exit)) r (afterWeights (headOf h) (line weight (h .n) (drop at (now (text .entry))))) ⌝ }
+    requires { ⌜ (h .n ≤ 64) × (h .terms ≤ 1024) × Lengths (now weights) (now fixings) (now firsts) (now seconds) (now «term_weights») ⌝ }
+    ensures { λ r. ⌜ ParsesInto (now (weights .exit)) (now (fixings .exit)) (now (firsts .exit)) (now (seconds .exit)) (now («term_weights» .exit)) r (afterWeights (headOf h) (line weight (h .n) (drop at (now (text .entry))))) ⌝ }
 {
     let n = h.n as usize;
     let Line::Read(a) = read_weights(text, at, n, weights) else {
@@ -312,7 +219,7 @@ fn read_lists(
 }
 
 // The objective of a text, into the fronts of the arrays, or the number of its refusal.
-pub fn parse(
+fn parse_into(
     text: &[u8],
     weights: &mut [i64; 64],
     fixings: &mut [u8; 64],
@@ -320,8 +227,8 @@ pub fn parse(
     seconds: &mut [u32; 1024],
     term_weights: &mut [i64; 1024],
 ) -> Parsed
-    requires { ⌜ Lent (now weights) (now fixings) (now firsts) (now seconds) (now «term_weights») ⌝ }
-    ensures { λ r. ⌜ Parses (now (weights .exit)) (now (fixings .exit)) (now (firsts .exit)) (now (seconds .exit)) (now («term_weights» .exit)) r (input (now (text .entry))) ⌝ }
+    requires { ⌜ Lengths (now weights) (now fixings) (now firsts) (now seconds) (now «term_weights») ⌝ }
+    ensures { λ r. ⌜ ParsesInto (now (weights .exit)) (now (fixings .exit)) (now (firsts .exit)) (now (seconds .exit)) (now («term_weights» .exit)) r (input (now (text .entry))) ⌝ }
 {
     if 32768 < text.len() {
         return Parsed::Refused(13);
@@ -336,4 +243,40 @@ pub fn parse(
         return Parsed::Refused(13);
     }
     read_lists(text, at, h, weights, fixings, firsts, seconds, term_weights)
+}
+
+// A text, read; its lists stand at the fronts of the arrays.
+pub struct Text {
+    pub parsed: Parsed,
+    pub weights: [i64; 64],
+    pub fixings: [u8; 64],
+    pub firsts: [u32; 1024],
+    pub seconds: [u32; 1024],
+    pub term_weights: [i64; 1024],
+}
+
+pub fn parse(text: &[u8]) -> Text
+    ensures { λ r. ⌜ Parses r (input (now (text .entry))) ⌝ }
+{
+    let mut weights = [0i64; 64];
+    let mut fixings = [0u8; 64];
+    let mut firsts = [0u32; 1024];
+    let mut seconds = [0u32; 1024];
+    let mut term_weights = [0i64; 1024];
+    let parsed = parse_into(
+        text,
+        &mut weights,
+        &mut fixings,
+        &mut firsts,
+        &mut seconds,
+        &mut term_weights,
+    );
+    Text {
+        parsed,
+        weights,
+        fixings,
+        firsts,
+        seconds,
+        term_weights,
+    }
 }

@@ -74,7 +74,7 @@ fn weigh(start: u64, w: &[i64]) -> u64
     let mut s: u64 = start;
     let mut i: usize = 0;
     while i < w.len() {
-        let m = signed::magnitude(w[i]);
+        let m = decimal::magnitude(w[i]);
         if m > 1099511627777 - s {
             return 1099511627777;
         }

@@ -10,8 +10,8 @@ use Rattle.rules.specs.ReadText.{given}
 use Rattle.rules.specs.Program.{reply}
 use Rattle.rules.specs.declared.Reduction.{Reduction}
 use Rattle.reduce.specs.Gives.{Gives}
-use Rattle.write_text.specs.Held.{Fair, replied}
-use Rattle.write_text.specs.Puts.{Shows}
+use Rattle.write_text.specs.Outcomes.{Fair, replied}
+use Rattle.decimal.specs.Puts.{AtFront}
 use Rattle.write_text.specs.CallLaws.{call-fair, call-replied}
 use Rattle.reply.specs.Shape.{reported}
 
@@ -19,5 +19,5 @@ module _ {o : Objective} {l e l′ e′ : List ℤ} {r : Reduction} (weights : l
   pub gives-fair : Fair r l′ e′
   gives-fair = rw (g .reduction, g .linear, g .edges) (call-fair o l e weights cells (reported o))
 
-  pub gives-shown : {out : List ℕ} {n : ℕ} → Shows out n (replied r l′ e′) → Shows out n (reply (given o))
+  pub gives-shown : {out out′ : List ℕ} {n : ℕ} → AtFront out (replied r l′ e′) out′ n → AtFront out (reply (given o)) out′ n
   gives-shown s = rw (g .reduction, g .linear, g .edges, call-replied o l e weights cells (reported o)) at s

@@ -11,7 +11,7 @@ use Rattle.sound_laws.specs.SoundStart.{statesFrom, ended-n}
 use Rattle.run_laws.specs.InOrderLaws.{ended-room}
 use Rattle.demand_laws.specs.RunEnds.{endSteps, end-fine, end-taken}
 use Rattle.run_record_laws.specs.RunRecord.{steps-narrow}
-use Rattle.write_text.specs.HeldLaws.{Reported, outcome-reported}
+use Rattle.write_text.specs.OutcomeLaws.{Reported, outcome-reported}
 
 of-fit : (o : Objective) → Fit o → Reported (o .n) (outcome o)
 unfolding outcome

@@ -104,22 +104,16 @@ fn counted(line: &[u8], at: usize, text: &[u8], n: usize) -> usize {
     if text.len() < n {
         return LOST;
     }
-    let mut weights = [0i64; 64];
-    let mut fixings = [0u8; 64];
-    let mut firsts = [0u32; 1024];
-    let mut seconds = [0u32; 1024];
-    let mut term_weights = [0i64; 1024];
-    let parsed = read_text::parse(
-        &text[0..n],
-        &mut weights,
-        &mut fixings,
-        &mut firsts,
-        &mut seconds,
-        &mut term_weights,
-    );
+    let read = read_text::parse(&text[0..n]);
+    let parsed = read.parsed;
     let Parsed::Given(h) = parsed else {
         return LOST;
     };
+    let weights = read.weights;
+    let fixings = read.fixings;
+    let firsts = read.firsts;
+    let seconds = read.seconds;
+    let term_weights = read.term_weights;
     counted_fronts(
         line,
         at,

@@ -1,43 +1,21 @@
 -- How long a result's text is at most. No bound on its numbers is needed: `shown` writes at most 20 digits.
 -- Assumes nothing.
 use mathlib.Core.Path.{_≡_, refl}
-use mathlib.Core.Bool.{Bool, true, false, not, cond, _&&_}
-use mathlib.Core.List.{List, [], _∷_, _++_}
+use mathlib.Core.Bool.{Bool, true, false, not, _&&_}
+use mathlib.Core.List.{List, [], _∷_}
 use Prim.Native.Nat.{ℕ, zero, suc, _+_, _*_, _/_, _%_, _^_, _<_, _≤_}
-use native.Mathlib.Nat.{pow-suc}
 use native.Mathlib.Omega.{arith}
 use lib.Dec.{ltb}
 use lib.Pow.{pow-mono}
 use lib.ListN.{length, take, length-append, length-take}
-use lib.IntN.{ℤ, pos, negsuc}
-use borrow.Author.Tests.{lt-ltb}
+use lib.IntN.{ℤ}
 use Rattle.whole.specs.Words.{isZeroZ, oneIf}
 use Rattle.rules.specs.Eliminate.{Step}
 use Rattle.rules.specs.Outcome.{Outcome}
-use Rattle.rules.specs.WriteText.{decimal, shownZ, listed, listedZ, edgeIf, edgeLines, choicesOf, stepLine, stepLines, yesNo, written}
+use Rattle.rules.specs.WriteText.{listed, listedZ, edgeIf, edgeLines, choicesOf, stepLine, stepLines, yesNo, written}
+use Rattle.decimal.specs.WriteLaws.{decimal-length, decimal-most, signed-most}
 use Rattle.record_laws.specs.Steps.{Few}
 use Rattle.write_text.specs.WriteLaws.{edge-length, step-length, opening-length, closing-length, written-parts}
-
--- a number below 10, 100, .. has 1, 2, .. digits at most
-one-more : (t : Bool) (xs : List ℕ) (x d : ℕ) → length xs ≤ d → length (cond t [] xs ++ (x ∷ [])) ≤ suc d
-one-more true xs x d h = omega arith
-one-more false xs x d h = rw length-append (omega arith)
-
-pub decimal-length : (d k v : ℕ) → v < 10 ^ suc d → length (decimal k v) ≤ suc d
-unfolding decimal
-decimal-length d zero v h = omega arith
-decimal-length zero (suc k) v h = rw (lt-ltb v 10 h) (omega arith)
-decimal-length (suc d) (suc k) v h =
-    one-more (ltb v 10) (decimal k (v / 10)) _ (suc d) (decimal-length d k (v / 10) (omega (arith, rw (pow-suc 10 (suc d)) at h)))
-
-pub decimal-most : (k v : ℕ) → length (decimal k v) ≤ k
-unfolding decimal
-decimal-most zero v = omega arith
-decimal-most (suc k) v = one-more (ltb v 10) (decimal k (v / 10)) _ k (decimal-most k (v / 10))
-
-signed-most : (w : ℤ) → length (shownZ w) ≤ 21
-signed-most (pos v) = omega (arith, decimal-most 20 v)
-signed-most (negsuc v) = omega (arith, decimal-most 20 (suc v))
 
 listed-most : (xs : List ℕ) → length (listed xs) ≤ 21 * length xs
 unfolding listed

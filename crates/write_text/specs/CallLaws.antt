@@ -15,10 +15,10 @@ use Rattle.rules.specs.ReadText.{given}
 use Rattle.rules.specs.WriteText.{written, writtenRefusal}
 use Rattle.rules.specs.Program.{reply}
 use Rattle.rules.specs.declared.Reduction.{Reduction}
-use Rattle.write_text.specs.Held.{held, Short, Fair, replied}
-use Rattle.write_text.specs.HeldLaws.{Reported, held-back, held-fair}
+use Rattle.write_text.specs.Outcomes.{outcomeIn, Short, Fair, replied}
+use Rattle.write_text.specs.OutcomeLaws.{Reported, outcome-back, reported-fair}
 
-pub replied-result : (r : Reduction) (l e : List ℤ) → r .answer ≡ 0 → replied r l e ≡ written (held r l e)
+pub replied-result : (r : Reduction) (l e : List ℤ) → r .answer ≡ 0 → replied r l e ≡ written (outcomeIn r l e)
 unfolding replied
 replied-result r l e h = rw h
 
@@ -26,7 +26,7 @@ pub replied-refusal : (r : Reduction) (l e : List ℤ) → (r .answer ≡ 0 → 
 unfolding replied
 replied-refusal r l e h = by (r .answer) h
   where
-    by : (k : ℕ) → (k ≡ 0 → ⊥) → unless k (written (held r l e)) (writtenRefusal k) ≡ writtenRefusal k
+    by : (k : ℕ) → (k ≡ 0 → ⊥) → unless k (written (outcomeIn r l e)) (writtenRefusal k) ≡ writtenRefusal k
     by zero h = absurd (h refl)
     by (suc k) h = refl
 
@@ -40,12 +40,12 @@ module _ (o : Objective) (l e : List ℤ) (weights : length l ≡ 64) (cells : l
   -- by the number of the refusal
   said : (k : ℕ) → reduceRefusal o 64 4096 ≡ k → replied (reduction o (length l) (length e)) (linearAfter o l e) (edgesAfter o l e) ≡ reply (given o)
   unfolding replied reduction linearAfter edgesAfter reply
-  said zero h = rw (weights, cells, h) (ap written (held-back (o .n) (outcome o) (shape h)))
+  said zero h = rw (weights, cells, h) (ap written (outcome-back (o .n) (outcome o) (shape h)))
   said (suc k) h = rw (weights, cells, h)
 
   fair : (k : ℕ) → reduceRefusal o 64 4096 ≡ k → Fair (reduction o (length l) (length e)) (linearAfter o l e) (edgesAfter o l e)
   unfolding reduction linearAfter edgesAfter Short
-  fair zero h = rw (weights, cells, h) (held-fair (o .n) (outcome o) (shape h))
+  fair zero h = rw (weights, cells, h) (reported-fair (o .n) (outcome o) (shape h))
   fair (suc k) h = rw (weights, cells, h) (record {
     decisions = omega arith;
     count = omega arith;

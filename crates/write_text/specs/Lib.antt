@@ -1,7 +1,5 @@
-pub mod Puts
-pub mod Held
+pub mod Outcomes
 pub mod WriteLaws
 pub mod Bounds
-pub mod Back
-pub mod HeldLaws
+pub mod OutcomeLaws
 pub mod CallLaws

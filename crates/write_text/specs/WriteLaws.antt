@@ -3,54 +3,57 @@
 use mathlib.Core.Path.{_≡_, refl, ap}
 use mathlib.Core.Bool.{Bool, true, false}
 use mathlib.Core.List.{List, [], _∷_, _++_, append-assoc}
-use Prim.Native.Nat.{ℕ, zero, suc, _+_, _-_, _/_, _%_, _^_, _<_, _≤_}
+use Prim.Native.Nat.{ℕ, zero, suc, _+_, _/_, _%_, _^_, _<_, _≤_}
 use native.Mathlib.Numerals.{add-one}
 use native.Mathlib.Omega.{arith}
 use lib.ListN.{length, getD, take, drop, length-append, drop-of-length-le}
 use lib.Seq.{drop-cons}
-use lib.IntN.{ℤ, pos, negsuc, natAbs}
-use lib.Signed.{ltZ}
-use borrow.Author.Tests.{lt-ltb, le-ltb, ltb-true}
+use lib.IntN.{ℤ, pos}
 use Rattle.whole.specs.Words.{isZeroZ}
 use Rattle.whole.specs.Cmp.{zero-of}
 use Rattle.whole.specs.Tests.{refuse}
-use Rattle.whole.specs.Counts.{less-one}
 use Rattle.rules.specs.Eliminate.{Step}
 use Rattle.rules.specs.Outcome.{Outcome}
-use Rattle.write_text.specs.Puts.{Begins}
-use Rattle.write_text.specs.Held.{opening, closing}
+use Rattle.decimal.specs.Puts.{Begins}
+use Rattle.write_text.specs.Outcomes.{opening, closing}
 use Rattle.rules.specs.Bytes.{bytes}
-use Rattle.rules.specs.WriteText.{decimal, shown, shownZ, listed, listedZ, edgeIf, edgeLine, edgeLines, choicesOf, stepLine, stepLines, yesNo, written}
+use Rattle.rules.specs.WriteText.{shown, shownZ, listed, listedZ, edgeIf, edgeLine, edgeLines, choicesOf, stepLine, stepLines, yesNo, written}
 
-pub decimal-none : (k v : ℕ) → k ≡ 0 → decimal k v ≡ []
-unfolding decimal
-decimal-none k v h = rw h
+-- how long an edge's line is, and a step's, and a result's text before its edges and after its steps
+abbrev pub edgeSize : ℕ → ℕ → ℤ → ℕ
+edgeSize i j w = 5 + length (shown i) + 1 + length (shown j) + 1 + length (shownZ w) + 1
 
-pub decimal-last : (k v : ℕ) → (k ≡ 0 → ⊥) → v < 10 → decimal k v ≡ (48 + v % 10) ∷ []
-unfolding decimal
-decimal-last zero v n h = absurd (n refl)
-decimal-last (suc k) v n h = rw (lt-ltb v 10 h)
+abbrev pub stepSize : Step → ℕ
+stepSize s = 5 + length (shown (s .decision)) + 2 + length (listed (s .near)) + 2 + length (listed (choicesOf (2 ^ length (s .near)) (s .choices))) + 1
 
-pub decimal-more : (k v : ℕ) → (k ≡ 0 → ⊥) → 10 ≤ v → decimal k v ≡ decimal (k - 1) (v / 10) ++ ((48 + v % 10) ∷ [])
-unfolding decimal
-decimal-more zero v n h = absurd (n refl)
-decimal-more (suc k) v n h = rw (le-ltb v 10 h, less-one k)
+abbrev pub openingSize : ℤ → List ℕ → List ℤ → ℕ
+openingSize c r l = 9 + length (shownZ c) + 10 + length (listed r) + 7 + length (listedZ l) + 1
 
-pub decimal-more-length : (k v : ℕ) → (k ≡ 0 → ⊥) → 10 ≤ v → length (decimal k v) ≡ length (decimal (k - 1) (v / 10)) + 1
-decimal-more-length k v n h = rw (decimal-more k v n h, length-append)
+abbrev pub closingSize : ℕ → Bool → ℕ
+closingSize u b = 6 + length (shown u) + 10 + length (yesNo b)
 
--- a signed number
-pub signed-less : (w : ℤ) → ltZ w (pos 0) ≡ true → shownZ w ≡ 45 ∷ shown (natAbs w)
-signed-less (pos v) h = let z : _≡_ {A = ℕ} 0 1 = absurd (omega (arith, ltb-true v 0 h)) in absurd (omega arith)
-signed-less (negsuc v) h = refl
-
-pub signed-plain : (w : ℤ) → ltZ w (pos 0) ≡ false → shownZ w ≡ shown (natAbs w)
-signed-plain (pos v) h = refl
-signed-plain (negsuc v) h = let z : _≡_ {A = ℕ} 0 1 = cc in absurd (omega arith)
-
--- the length of an edge's line
-pub edge-length : (i j : ℕ) (w : ℤ) → length (edgeIf true i j w) ≡ 5 + length (shown i) + 1 + length (shown j) + 1 + length (shownZ w) + 1
+pub edge-length : (i j : ℕ) (w : ℤ) → length (edgeIf true i j w) ≡ edgeSize i j w
 edge-length i j w = simp length-append (omega arith)
+
+-- a step's line by its labels
+label : (a b c d e f n : List ℕ) → a ++ b ++ c ++ d ++ e ++ f ++ n ≡ (a ++ b) ++ (c ++ d) ++ (e ++ f) ++ n
+label a b c d e f n = simp append-assoc
+
+pub step-parts : (s : Step) → stepLine s ≡ (bytes "step " ++ shown (s .decision)) ++ (bytes " :" ++ listed (s .near)) ++ (bytes " :" ++ listed (choicesOf (2 ^ length (s .near)) (s .choices))) ++ 10 ∷ []
+unfolding stepLine
+step-parts s = label (bytes "step ") (shown (s .decision)) (bytes " :") (listed (s .near)) (bytes " :") (listed (choicesOf (2 ^ length (s .near)) (s .choices))) (10 ∷ [])
+
+pub step-length : (s : Step) → length (stepLine s) ≡ stepSize s
+unfolding stepLine
+step-length s = simp length-append (omega arith)
+
+pub opening-length : (c : ℤ) (r : List ℕ) (l : List ℤ) → length (opening c r l) ≡ openingSize c r l
+unfolding opening
+opening-length c r l = simp length-append (omega arith)
+
+pub closing-length : (u : ℕ) (b : Bool) → length (closing u b) ≡ closingSize u b
+unfolding closing
+closing-length u b = simp length-append (omega arith)
 
 pub zero-no : (w : ℤ) → (w ≡ pos 0 → ⊥) → isZeroZ w ≡ false
 zero-no w h = refuse (isZeroZ w) (λ t. h (zero-of w t))
@@ -104,27 +107,20 @@ pub steps-none : (ss : List Step) (j : ℕ) → length ss ≤ j → stepLines (d
 unfolding stepLines
 steps-none ss j h = rw (drop-of-length-le ss h)
 
-pub step-length : (s : Step) → length (stepLine s) ≡ 5 + length (shown (s .decision)) + 2 + length (listed (s .near)) + 2 + length (listed (choicesOf (2 ^ length (s .near)) (s .choices))) + 1
-unfolding stepLine
-step-length s = simp length-append (omega arith)
-
-pub opening-length : (c : ℤ) (r : List ℕ) (l : List ℤ) → length (opening c r l) ≡ 9 + length (shownZ c) + 10 + length (listed r) + 7 + length (listedZ l) + 1
-unfolding opening
-opening-length c r l = simp length-append (omega arith)
-
-pub closing-length : (u : ℕ) (b : Bool) → length (closing u b) ≡ 6 + length (shown u) + 10 + length (yesNo b)
-unfolding closing
-closing-length u b = simp length-append (omega arith)
-
 -- a result in four parts
-regroup : (a n e s u v w y : List ℕ) → a ++ (n ++ e) ++ s ++ u ++ v ++ w ++ y ≡ (a ++ n) ++ e ++ s ++ (u ++ v ++ w ++ y)
-regroup a n e s u v w y = simp append-assoc
+regroup : (a b c d e f n g s u v w y : List ℕ) → a ++ b ++ c ++ d ++ e ++ f ++ (n ++ g) ++ s ++ u ++ v ++ w ++ y ≡ ((a ++ b) ++ (c ++ d) ++ (e ++ f) ++ n) ++ g ++ s ++ ((u ++ v) ++ (w ++ y))
+regroup a b c d e f n g s u v w y = simp append-assoc
 
 pub written-parts : (o : Outcome) → written o ≡ opening (o .constant) (o .remaining) (take (length (o .remaining)) (o .linear)) ++ edgeLines 0 (o .edges) ++ stepLines (o .steps) ++ closing (o .units) (o .complete)
 unfolding written opening closing
 written-parts o =
     regroup
-    (bytes "constant " ++ shownZ (o .constant) ++ bytes "\nremaining" ++ listed (o .remaining) ++ bytes "\nlinear" ++ listedZ (take (length (o .remaining)) (o .linear)))
+    (bytes "constant ")
+    (shownZ (o .constant))
+    (bytes "\nremaining")
+    (listed (o .remaining))
+    (bytes "\nlinear")
+    (listedZ (take (length (o .remaining)) (o .linear)))
     (10 ∷ [])
     (edgeLines 0 (o .edges))
     (stepLines (o .steps))

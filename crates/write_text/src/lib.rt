@@ -1,122 +1,63 @@
-// Writers of what the program answers: into a buffer, from a place on, giving the place after.
+// Writers of what the program answers: into a lent slice, from a place on, giving the place after.
 use rules::Record;
 use rules::Reduction;
 use rules::Step;
 ghost use mathlib.Core.Path.{_≡_};
 ghost use mathlib.Core.Bool.{true};
+ghost use mathlib.Core.List.{_++_};
 ghost use Prim.Native.Nat.{_+_, _^_, _<_, _≤_};
 ghost use lib.ListN.{length, take};
-ghost use Rattle.rules.specs.WriteText.{decimal, shownZ, listed, listedZ, edgeIf, edgeLine, edgeLines, choicesOf, stepLine, stepLines, written, writtenRefusal};
+ghost use Rattle.rules.specs.WriteText.{listed, listedZ, edgeIf, edgeLine, edgeLines, choicesOf, stepLine, stepLines, written, writtenRefusal};
 ghost use Rattle.rules.specs.Record.{played, stepsOf};
 ghost use Rattle.rules.specs.Back.{remainingOf};
-ghost use Rattle.write_text.specs.Puts.{Wrote, room, Shows};
-ghost use Rattle.write_text.specs.Held.{held, Fair, Short, opening, closing, replied};
+ghost use Rattle.decimal.specs.Puts.{Wrote, AtFront};
+ghost use Rattle.write_text.specs.Outcomes.{room, Fair, Short, outcomeIn, opening, closing, replied};
+ghost use Rattle.write_text.specs.WriteLaws.{edgeSize, stepSize, closingSize};
 
-// Enough for every result.
-const ROOM: usize = 77_824;
-
-// The bytes of s.
-fn put(out: &mut [u8; ROOM], at: usize, s: &[u8]) -> usize
-    requires { ⌜ at + length (now s) ≤ room ⌝ }
-    ensures { λ r. ⌜ Wrote (now (out .entry)) at (now (s .entry)) (now (out .exit)) r ⌝ }
+// The bytes of `label`, and each number after one space.
+fn put_list(out: &mut [u8], at: usize, label: &[u8], xs: &[u8]) -> usize
+    requires { ⌜ at + (length (now label) + length (listed (now xs))) ≤ length (now out) ⌝ }
+    ensures { λ r. ⌜ Wrote (now (out .entry)) at (now (label .entry) ++ listed (now (xs .entry))) (now (out .exit)) r ⌝ }
 {
-    let mut p = at;
-    let mut j = 0;
-    while j < s.len() {
-        out[p] = s[j];
-        p = p + 1;
-        j = j + 1;
-    }
-    p
-}
-
-// v in at most k digits.
-fn put_digits(out: &mut [u8; ROOM], at: usize, v: u64, k: usize) -> usize
-    requires { ⌜ at + length (decimal k v) ≤ room ⌝ }
-    ensures { λ r. ⌜ Wrote (now (out .entry)) at (decimal k v) (now (out .exit)) r ⌝ }
-{
-    if k == 0 {
-        return at;
-    }
-    let d = 48 + (v % 10) as u8;
-    if v < 10 {
-        out[at] = d;
-        return at + 1;
-    }
-    let p = put_digits(out, at, v / 10, k - 1);
-    out[p] = d;
-    p + 1
-}
-
-fn put_signed(out: &mut [u8; ROOM], at: usize, w: i64) -> usize
-    requires { ⌜ at + length (shownZ w) ≤ room ⌝ }
-    ensures { λ r. ⌜ Wrote (now (out .entry)) at (shownZ w) (now (out .exit)) r ⌝ }
-{
-    let m = signed::magnitude(w);
-    if w < 0 {
-        out[at] = 45;
-        put_digits(out, at + 1, m, 20)
-    } else {
-        put_digits(out, at, m, 20)
-    }
-}
-
-fn wide(b: u8) -> u64
-    ensures { λ r. ⌜ r ≡ b ⌝ }
-{
-    b as u64
-}
-
-// Each number after one space.
-fn put_list(out: &mut [u8; ROOM], at: usize, xs: &[u8]) -> usize
-    requires { ⌜ at + length (listed (now xs)) ≤ room ⌝ }
-    ensures { λ r. ⌜ Wrote (now (out .entry)) at (listed (now (xs .entry))) (now (out .exit)) r ⌝ }
-{
-    let mut p = at;
+    let mut p = decimal::put(out, at, label);
     let mut j = 0;
     while j < xs.len() {
-        let x = wide(xs[j]);
-        out[p] = 32;
-        p = put_digits(out, p + 1, x, 20);
+        let x = whole::wide(xs[j]);
+        p = decimal::put_number(out, p, b" ", x);
         j = j + 1;
     }
     p
 }
 
-// Each weight after one space.
-fn put_weights(out: &mut [u8; ROOM], at: usize, ws: &[i64]) -> usize
-    requires { ⌜ at + length (listedZ (now ws)) ≤ room ⌝ }
-    ensures { λ r. ⌜ Wrote (now (out .entry)) at (listedZ (now (ws .entry))) (now (out .exit)) r ⌝ }
+// The same of weights.
+fn put_weights(out: &mut [u8], at: usize, label: &[u8], ws: &[i64]) -> usize
+    requires { ⌜ at + (length (now label) + length (listedZ (now ws))) ≤ length (now out) ⌝ }
+    ensures { λ r. ⌜ Wrote (now (out .entry)) at (now (label .entry) ++ listedZ (now (ws .entry))) (now (out .exit)) r ⌝ }
 {
-    let mut p = at;
+    let mut p = decimal::put(out, at, label);
     let mut j = 0;
     while j < ws.len() {
         let w = ws[j];
-        out[p] = 32;
-        p = put_signed(out, p + 1, w);
+        p = decimal::put_signed(out, p, b" ", w);
         j = j + 1;
     }
     p
 }
 
 // The line of the edge of i and j.
-fn put_edge(out: &mut [u8; ROOM], at: usize, i: u64, j: u64, w: i64) -> usize
-    requires { ⌜ at + length (edgeIf true i j w) ≤ room ⌝ }
+fn put_edge(out: &mut [u8], at: usize, i: u64, j: u64, w: i64) -> usize
+    requires { ⌜ at + edgeSize i j w ≤ length (now out) ⌝ }
     ensures { λ r. ⌜ Wrote (now (out .entry)) at (edgeIf true i j w) (now (out .exit)) r ⌝ }
 {
-    let a = put(out, at, b"edge ");
-    let b = put_digits(out, a, i, 20);
-    out[b] = 32;
-    let c = put_digits(out, b + 1, j, 20);
-    out[c] = 32;
-    let d = put_signed(out, c + 1, w);
-    out[d] = 10;
-    d + 1
+    let a = decimal::put_number(out, at, b"edge ", i);
+    let b = decimal::put_number(out, a, b" ", j);
+    let c = decimal::put_signed(out, b, b" ", w);
+    decimal::put(out, c, b"\n")
 }
 
 // The line of the cell k, where it has one.
-fn put_cell(out: &mut [u8; ROOM], at: usize, k: usize, w: i64) -> usize
-    requires { ⌜ (at + length (edgeLine k w) ≤ room) × (k < 4096) ⌝ }
+fn put_cell(out: &mut [u8], at: usize, k: usize, w: i64) -> usize
+    requires { ⌜ (at + length (edgeLine k w) ≤ length (now out)) × (k < 4096) ⌝ }
     ensures { λ r. ⌜ Wrote (now (out .entry)) at (edgeLine k w) (now (out .exit)) r ⌝ }
 {
     let i = (k / 64) as u64;
@@ -130,8 +71,8 @@ fn put_cell(out: &mut [u8; ROOM], at: usize, k: usize, w: i64) -> usize
     put_edge(out, at, i, j, w)
 }
 
-fn put_edges(out: &mut [u8; ROOM], at: usize, es: &[i64]) -> usize
-    requires { ⌜ (at + length (edgeLines 0 (now es)) ≤ room) × (length (now es) ≡ 4096) ⌝ }
+fn put_edges(out: &mut [u8], at: usize, es: &[i64]) -> usize
+    requires { ⌜ (at + length (edgeLines 0 (now es)) ≤ length (now out)) × (length (now es) ≡ 4096) ⌝ }
     ensures { λ r. ⌜ Wrote (now (out .entry)) at (edgeLines 0 (now (es .entry))) (now (out .exit)) r ⌝ }
 {
     let mut p = at;
@@ -145,9 +86,9 @@ fn put_edges(out: &mut [u8; ROOM], at: usize, es: &[i64]) -> usize
 }
 
 // The k lowest bits of m, bit 0 first.
-fn put_choices(out: &mut [u8; ROOM], at: usize, k: u8, m: u8) -> usize
-    requires { ⌜ (k ≤ 8) × (at + length (listed (choicesOf k m)) ≤ room) ⌝ }
-    ensures { λ r. ⌜ Wrote (now (out .entry)) at (listed (choicesOf k m)) (now (out .exit)) r ⌝ }
+fn put_choices(out: &mut [u8], at: usize, label: &[u8], k: u8, m: u8) -> usize
+    requires { ⌜ (k ≤ 8) × (at + (length (now label) + length (listed (choicesOf k m))) ≤ length (now out)) ⌝ }
+    ensures { λ r. ⌜ Wrote (now (out .entry)) at (now (label .entry) ++ listed (choicesOf k m)) (now (out .exit)) r ⌝ }
 {
     let a = m / 2;
     let b = a / 2;
@@ -156,7 +97,7 @@ fn put_choices(out: &mut [u8; ROOM], at: usize, k: u8, m: u8) -> usize
     let e = d / 2;
     let f = e / 2;
     let bits = [m % 2, a % 2, b % 2, c % 2, d % 2, e % 2, f % 2, f / 2 % 2];
-    put_list(out, at, &bits[..k as usize])
+    put_list(out, at, label, &bits[..k as usize])
 }
 
 fn masks(d: u8) -> u8
@@ -171,24 +112,20 @@ fn masks(d: u8) -> u8
     }
 }
 
-fn put_step(out: &mut [u8; ROOM], at: usize, s: Step) -> usize
-    requires { ⌜ (s .degree ≤ 3) × (at + length (stepLine (played s)) ≤ room) ⌝ }
+fn put_step(out: &mut [u8], at: usize, s: Step) -> usize
+    requires { ⌜ (s .degree ≤ 3) × (at + stepSize (played s) ≤ length (now out)) ⌝ }
     ensures { λ r. ⌜ Wrote (now (out .entry)) at (stepLine (played s)) (now (out .exit)) r ⌝ }
 {
     let near = [s.first, s.second, s.third];
     let d = s.degree as usize;
-    let a = put(out, at, b"step ");
-    let b = put_digits(out, a, s.decision as u64, 20);
-    let c = put(out, b, b" :");
-    let e = put_list(out, c, &near[..d]);
-    let f = put(out, e, b" :");
-    let g = put_choices(out, f, masks(s.degree), s.choices);
-    out[g] = 10;
-    g + 1
+    let a = decimal::put_number(out, at, b"step ", s.decision as u64);
+    let b = put_list(out, a, b" :", &near[..d]);
+    let c = put_choices(out, b, b" :", masks(s.degree), s.choices);
+    decimal::put(out, c, b"\n")
 }
 
-fn put_steps(out: &mut [u8; ROOM], at: usize, record: Record) -> usize
-    requires { ⌜ («record» .count ≤ 64) × Short «record» × (at + length (stepLines (stepsOf «record»)) ≤ room) ⌝ }
+fn put_steps(out: &mut [u8], at: usize, record: Record) -> usize
+    requires { ⌜ («record» .count ≤ 64) × Short «record» × (at + length (stepLines (stepsOf «record»)) ≤ length (now out)) ⌝ }
     ensures { λ r. ⌜ Wrote (now (out .entry)) at (stepLines (stepsOf «record»)) (now (out .exit)) r ⌝ }
 {
     let count = record.count as usize;
@@ -227,44 +164,33 @@ fn remaining(states: &[u8; 64], n: usize) -> Decisions
 }
 
 // From the constant to the line of weights.
-fn put_opening(out: &mut [u8; ROOM], constant: i64, remaining: &[u8], linear: &[i64]) -> usize
-    requires { ⌜ length (opening constant (now remaining) (now linear)) ≤ room ⌝ }
+fn put_opening(out: &mut [u8], constant: i64, remaining: &[u8], linear: &[i64]) -> usize
+    requires { ⌜ length (opening constant (now remaining) (now linear)) ≤ length (now out) ⌝ }
     ensures { λ r. ⌜ Wrote (now (out .entry)) 0 (opening constant (now (remaining .entry)) (now (linear .entry))) (now (out .exit)) r ⌝ }
 {
-    let a = put(out, 0, b"constant ");
-    let b = put_signed(out, a, constant);
-    let c = put(out, b, b"\nremaining");
-    let d = put_list(out, c, remaining);
-    let e = put(out, d, b"\nlinear");
-    let f = put_weights(out, e, linear);
-    out[f] = 10;
-    f + 1
+    let a = decimal::put_signed(out, 0, b"constant ", constant);
+    let b = put_list(out, a, b"\nremaining", remaining);
+    let c = put_weights(out, b, b"\nlinear", linear);
+    decimal::put(out, c, b"\n")
 }
 
 // The last line.
-fn put_closing(out: &mut [u8; ROOM], at: usize, units: u32, complete: bool) -> usize
-    requires { ⌜ at + length (closing units complete) ≤ room ⌝ }
+fn put_closing(out: &mut [u8], at: usize, units: u32, complete: bool) -> usize
+    requires { ⌜ at + closingSize units complete ≤ length (now out) ⌝ }
     ensures { λ r. ⌜ Wrote (now (out .entry)) at (closing units complete) (now (out .exit)) r ⌝ }
 {
-    let a = put(out, at, b"units ");
-    let b = put_digits(out, a, units as u64, 20);
-    let c = put(out, b, b" complete ");
+    let a = decimal::put_number(out, at, b"units ", units as u64);
     if complete {
-        put(out, c, b"yes\n")
+        decimal::put(out, a, b" complete yes\n")
     } else {
-        put(out, c, b"no\n")
+        decimal::put(out, a, b" complete no\n")
     }
 }
 
 // What a reduction gives, with the two outputs that were lent to it.
-pub fn put_result(
-    out: &mut [u8; ROOM],
-    reduction: Reduction,
-    linear: &[i64],
-    edges: &[i64],
-) -> usize
-    requires { ⌜ (length (now out) ≡ room) × Fair reduction (now linear) (now edges) ⌝ }
-    ensures { λ r. ⌜ Shows (now (out .exit)) r (written (held reduction (now (linear .entry)) (now (edges .entry)))) ⌝ }
+pub fn put_result(out: &mut [u8], reduction: Reduction, linear: &[i64], edges: &[i64]) -> usize
+    requires { ⌜ (room ≤ length (now out)) × Fair reduction (now linear) (now edges) ⌝ }
+    ensures { λ r. ⌜ AtFront (now (out .entry)) (written (outcomeIn reduction (now (linear .entry)) (now (edges .entry)))) (now (out .exit)) r ⌝ }
 {
     let record = reduction.record;
     let states = record.states;
@@ -277,20 +203,18 @@ pub fn put_result(
     put_closing(out, c, reduction.units, reduction.complete)
 }
 
-pub fn put_refusal(out: &mut [u8; ROOM], number: u8) -> usize
-    requires { ⌜ length (now out) ≡ room ⌝ }
-    ensures { λ r. ⌜ Shows (now (out .exit)) r (writtenRefusal number) ⌝ }
+pub fn put_refusal(out: &mut [u8], number: u8) -> usize
+    requires { ⌜ room ≤ length (now out) ⌝ }
+    ensures { λ r. ⌜ AtFront (now (out .entry)) (writtenRefusal number) (now (out .exit)) r ⌝ }
 {
-    let a = put(out, 0, b"refused ");
-    let b = put_digits(out, a, number as u64, 20);
-    out[b] = 10;
-    b + 1
+    let a = decimal::put_number(out, 0, b"refused ", number as u64);
+    decimal::put(out, a, b"\n")
 }
 
 // What a call of `reduce` answered.
-pub fn put_reply(out: &mut [u8; ROOM], reduction: Reduction, linear: &[i64], edges: &[i64]) -> usize
-    requires { ⌜ (length (now out) ≡ room) × Fair reduction (now linear) (now edges) ⌝ }
-    ensures { λ r. ⌜ Shows (now (out .exit)) r (replied reduction (now (linear .entry)) (now (edges .entry))) ⌝ }
+pub fn put_reply(out: &mut [u8], reduction: Reduction, linear: &[i64], edges: &[i64]) -> usize
+    requires { ⌜ (room ≤ length (now out)) × Fair reduction (now linear) (now edges) ⌝ }
+    ensures { λ r. ⌜ AtFront (now (out .entry)) (replied reduction (now (linear .entry)) (now (edges .entry))) (now (out .exit)) r ⌝ }
 {
     if reduction.answer == 0 {
         put_result(out, reduction, linear, edges)

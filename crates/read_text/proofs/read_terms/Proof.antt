@@ -10,7 +10,8 @@ use Rattle.whole.specs.Ints.{rd}
 use Rattle.rules.specs.ReadText.{got, number32, terms}
 use Rattle.read_text.specs.ReadLaws.{terms-step, terms-end}
 use Rattle.whole.specs.Stores.{front-more}
-use Rattle.read_text.specs.Seen.{seen32, seenZ}
+use Rattle.decimal.specs.Seen.{seenZ}
+use Rattle.read_text.specs.Seen.{seen32}
 use Rattle.read_text.proofs.read_terms.Statement.{statement}
 use Rattle.read_text.proofs.read_terms.Tie as tie
 
@@ -47,7 +48,7 @@ returns-3 : tie.Need-returns-3 Inv-loop μ-loop
 returns-3 c =
     let a = c .before .before .before .before .before .before .before .before .before .before .before .before .before .before .args in
     let l = c .before .before .before .before .before .before .before .before .before .before .before .before .loop in
-    (rw (l .inv .4, terms-step (take (l .m) (l .firsts)) (take (l .m) (l .seconds)) (take (l .m) (l .weights)) (a .k) (l .m) (drop (l .p) (a .text .now)) (omega arith), ← i-read (c .before .before .before .before .before .before .before), ← j-read (c .before .before .before), ← (ap (seenZ (a .text .now)) (sym (c .enum-told3 .given .1)) ∙ c .before .before .read-weight .ensures)), (l .inv .1, l .inv .2, l .inv .3))
+    (rw (l .inv .4, terms-step (take (l .m) (l .firsts)) (take (l .m) (l .seconds)) (take (l .m) (l .weights)) (a .k) (l .m) (drop (l .p) (a .text .now)) (omega arith), ← i-read (c .before .before .before .before .before .before .before), ← j-read (c .before .before .before), ← (ap (seenZ (a .text .now)) (sym (c .enum-told3 .given .1)) ∙ c .before .before .read-signed .ensures)), (l .inv .1, l .inv .2, l .inv .3))
 
 loop-again : tie.Need-loop-again Inv-loop μ-loop
 loop-again c =
@@ -63,7 +64,7 @@ loop-again c =
         terms-step (take (l .m) (l .firsts)) (take (l .m) (l .seconds)) (take (l .m) (l .weights)) (a .k) (l .m) (drop (l .p) (a .text .now)) (omega arith),
         ← i-read (c .before .before .before .before .before .before .before .before),
         ← j-read (c .before .before .before .before),
-        ← (ap (seenZ (a .text .now)) (sym (c .before .w .given .1)) ∙ c .before .before .before .read-weight .ensures),
+        ← (ap (seenZ (a .text .now)) (sym (c .before .w .given .1)) ∙ c .before .before .before .read-signed .ensures),
         rd f,
         front-more (l .firsts) (l .m) _ (omega arith),
         front-more (l .seconds) (l .m) _ (omega arith),

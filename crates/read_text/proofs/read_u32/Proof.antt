@@ -1,6 +1,6 @@
 use mathlib.Core.Path.{ap, sym, _∙_, subst}
 use native.Mathlib.Omega.{arith}
-use Rattle.read_text.specs.Seen.{seen, within}
+use Rattle.decimal.specs.Seen.{seen, within}
 use borrow.Author.Needs.{needs}
 use Rattle.read_text.proofs.read_u32.Statement.{statement}
 use Rattle.read_text.proofs.read_u32.Tie as tie

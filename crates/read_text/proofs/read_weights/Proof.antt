@@ -27,14 +27,14 @@ returns-2 : tie.Need-returns-2 Inv-loop μ-loop
 returns-2 c =
     let a = c .before .before .before .before .before .before .before .before .args in
     let l = c .before .before .before .before .before .loop in
-    (going-bad weight (a .n) (a .at) (a .text .now) (l .inv) (c .before .before .before .end-of .result) (omega arith) (c .before .before .before .end-of .ensures .0) (rw (c .enum-told .given .1) at (c .before .before .read-weight .ensures)), l .inv .long)
+    (going-bad weight (a .n) (a .at) (a .text .now) (l .inv) (c .before .before .before .end-of .result) (omega arith) (c .before .before .before .end-of .ensures) (rw (c .enum-told .given .1) at (c .before .before .read-signed .ensures)), l .inv .long)
 
 loop-again : tie.Need-loop-again Inv-loop μ-loop
 loop-again c =
     let a = c .before .before .before .before .before .before .before .before .before .args in
     let l = c .before .before .before .before .before .before .loop in
     let f : SFits w64 (c .before .w .given .0 .0) = search needs in
-    rw (rd f) (going-on weight (a .n) (a .at) (a .text .now) (l .inv) (c .before .before .before .before .end-of .result) (omega arith) (c .before .before .before .before .before .before .before .before .before .pre .0) (c .before .before .before .before .end-of .ensures .0) (c .before .w .given .0 .0) (c .before .w .given .0 .1 .0) (rw (c .before .w .given .1) at (c .before .before .before .read-weight .ensures)))
+    rw (rd f) (going-on weight (a .n) (a .at) (a .text .now) (l .inv) (c .before .before .before .before .end-of .result) (omega arith) (c .before .before .before .before .before .before .before .before .before .pre .0) (c .before .before .before .before .end-of .ensures) (c .before .w .given .0 .0) (c .before .w .given .0 .1 .0) (rw (c .before .w .given .1) at (c .before .before .before .read-signed .ensures)))
 
 returns-3 : tie.Need-returns-3 Inv-loop μ-loop
 returns-3 c = let a = c .before .before .before .before .args in (going-end weight (a .n) (a .at) (a .text .now) (c .before .loop .inv) (omega arith), c .before .loop .inv .long)

@@ -4,19 +4,22 @@ use Rattle.rules.specs.Program.{reply, program}
 use Rattle.reply.proofs.reply.Statement.{statement}
 use Rattle.reply.proofs.reply.Tie as tie
 
-reply-to-fronts-requires : tie.Need-reply-to-fronts-requires
-reply-to-fronts-requires c κs =
-    let p = c .before .before .before .before .before .before .before .before .before .parse .ensures in
-    let few = rw (c .before .before .before .before .before .before .before .parsed2 .given .1) at (p .few) in
-    (c .before .before .before .before .before .before .before .before .before .before .before .before .before .before .before .before .pre, few .0, few .1, p .lent)
+reply-to-text-requires : tie.Need-reply-to-text-requires
+reply-to-text-requires c κs =
+    let few = rw (c .before .before .parsed2 .given .1) at (c .before .before .before .before .parse .ensures .few) in
+    (c .before .before .before .before .before .before .before .pre, few .0, few .1)
 
 returns : tie.Need-returns
 unfolding program reply
-returns c = rw (← (rw (c .before .before .before .parsed .given .1) at (c .before .before .before .before .before .parse .ensures .reads))) (c .put-refusal .ensures)
+returns c =
+    let z = c .before .before in
+    rw (← (rw (z .before .before .before .parsed .given .1) at (z .before .before .before .before .before .parse .ensures .reads))) (z .put-refusal .ensures)
 
 returns-2 : tie.Need-returns-2
 unfolding program
-returns-2 c = rw (← (rw (c .before .before .before .before .before .before .before .before .parsed2 .given .1) at (c .before .before .before .before .before .before .before .before .before .before .parse .ensures .reads))) (c .reply-to-fronts .ensures)
+returns-2 c =
+    let z = c .before .before in
+    rw (← (rw (z .before .before .before .parsed2 .given .1) at (z .before .before .before .before .before .parse .ensures .reads))) (z .reply-to-text .ensures)
 
 pub reply-spec : {M : Type 1} → statement M
 reply-spec =
@@ -26,11 +29,8 @@ reply-spec =
     (λ c. search needs)
     (λ c κs. search needs)
     (λ c. search needs)
+    reply-to-text-requires
     (λ c. search needs)
-    (λ c. search needs)
-    (λ c. search needs)
-    (λ c. search needs)
-    (λ c. search needs)
-    reply-to-fronts-requires
     returns
+    (λ c. search needs)
     returns-2)

@@ -6,11 +6,10 @@ use Rattle.reply.proofs.reply_to.Statement.{statement}
 use Rattle.reply.proofs.reply_to.Tie as tie
 
 put-reply-requires : tie.Need-put-reply-requires
-put-reply-requires c κs =
-    (c .before .before .before .before .before .before .before .before .before .before .before .pre, gives-fair refl refl (c .before .before .before .before .before .reduce .ensures))
+put-reply-requires c κs = let z = c .before .before .before .before .before in (z .before .before .before .before .before .before .before .pre, gives-fair refl refl (z .reduce .ensures))
 
 returns : tie.Need-returns
-returns c = gives-shown refl refl (c .before .before .before .before .before .before .reduce .ensures) (c .put-reply .ensures)
+returns c = let z = c .before .before in gives-shown refl refl (z .before .before .before .before .before .before .reduce .ensures) (z .put-reply .ensures)
 
 pub reply-to-spec : {M : Type 1} → statement M
 reply-to-spec =
@@ -22,4 +21,5 @@ reply-to-spec =
     (λ c. search needs)
     (λ c. search needs)
     put-reply-requires
+    (λ c. search needs)
     returns)

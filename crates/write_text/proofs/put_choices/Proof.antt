@@ -5,14 +5,18 @@ use Rattle.write_text.proofs.put_choices.Tie as tie
 
 slice-aggregate-put-list : tie.Need-slice-aggregate-put-list
 slice-aggregate-put-list c =
-    let a = c .before .before .args in
-    rw (byte-first (a .k) (a .m) (c .before .before .pre .0)) (choices-length (a .k) (a .m))
+    let s = c .before .before .before .before in
+    rw (byte-first (s .args .k) (s .args .m) (s .pre .0)) (choices-length (s .args .k) (s .args .m))
 
 put-list-requires : tie.Need-put-list-requires
-put-list-requires c κs = rw (byte-first (c .before .before .args .k) (c .before .before .args .m) (c .before .before .pre .0)) (c .before .before .pre .1)
+put-list-requires c κs =
+    let s = c .before .before .before .before in rw (byte-first (s .args .k) (s .args .m) (s .pre .0)) (s .pre .1)
 
 returns : tie.Need-returns
-returns c = rw (byte-first (c .before .before .before .args .k) (c .before .before .before .args .m) (c .before .before .before .pre .0)) at (c .put-list .ensures)
+returns c =
+    let z = c .before .before in
+    let s = z .before .before .before .before .before in
+    rw (byte-first (s .args .k) (s .args .m) (s .pre .0)) at (z .put-list .ensures)
 
 pub put-choices-spec : {M : Type 1} → statement M
-put-choices-spec = tie.close (tie.spec (λ c. search needs) slice-aggregate-put-list put-list-requires returns)
+put-choices-spec = tie.close (tie.spec (λ c. search needs) slice-aggregate-put-list put-list-requires (λ c. search needs) returns)

@@ -1,52 +1,24 @@
 use borrow.Author.Needs.{needs}
 use native.Mathlib.Omega.{arith}
 use Rattle.whole.specs.Ints.{rd}
-use Rattle.write_text.specs.WriteLaws.{edge-length}
-use Rattle.write_text.specs.Puts.{one, _then_}
+use Rattle.decimal.specs.Puts.{_then_}
 use Rattle.write_text.proofs.put_edge.Statement.{statement}
 use Rattle.write_text.proofs.put_edge.Tie as tie
 
-put-digits-requires : tie.Need-put-digits-requires
-put-digits-requires c κs =
-    let a = c .before .before .before .before .args in omega (arith, edge-length (a .i) (a .j) (a .w))
-
-element-write-out : tie.Need-element-write-out
-element-write-out c =
-    let a = c .before .before .before .before .before .args in omega (arith, edge-length (a .i) (a .j) (a .w))
-
-add-put-digits : tie.Need-add-put-digits
-add-put-digits c =
-    let a = c .before .before .before .before .before .before .args in omega (arith, edge-length (a .i) (a .j) (a .w))
-
-put-digits-requires-2 : tie.Need-put-digits-requires-2
-put-digits-requires-2 c κs =
-    let a = c .before .before .before .before .before .before .args in omega (arith, edge-length (a .i) (a .j) (a .w))
-
-element-write-out-2 : tie.Need-element-write-out-2
-element-write-out-2 c =
-    let a = c .before .before .before .before .before .before .before .args in omega (arith, edge-length (a .i) (a .j) (a .w))
-
-add-put-signed : tie.Need-add-put-signed
-add-put-signed c =
-    let a = c .before .before .before .before .before .before .before .before .args in omega (arith, edge-length (a .i) (a .j) (a .w))
-
 put-signed-requires : tie.Need-put-signed-requires
-put-signed-requires c κs =
-    let a = c .before .before .before .before .before .before .before .before .args in rw (rd (c .before .before .before .before .before .before .before .before .fits .w)) (omega (arith, edge-length (a .i) (a .j) (a .w)))
+put-signed-requires c κs = rw (rd (c .before .before .before .before .before .before .before .before .before .before .before .before .before .fits .w)) (omega arith)
 
-element-write-out-3 : tie.Need-element-write-out-3
-element-write-out-3 c =
-    let a = c .before .before .before .before .before .before .before .before .before .args in omega (arith, edge-length (a .i) (a .j) (a .w), rw (rd (c .before .before .before .before .before .before .before .before .before .fits .w)) at (c .put-signed .ensures .place))
-
-add-result : tie.Need-add-result
-add-result c =
-    let a = c .before .before .before .before .before .before .before .before .before .args in omega (arith, edge-length (a .i) (a .j) (a .w), rw (rd (c .before .before .before .before .before .before .before .before .before .fits .w)) at (c .put-signed .ensures .place))
+put-requires : tie.Need-put-requires
+put-requires c κs =
+    let x = c .before .before .before .before in omega (arith, rw (rd (x .before .before .before .before .before .before .before .before .before .before .before .before .before .before .fits .w)) at (x .put-signed .ensures .place))
 
 returns : tie.Need-returns
 returns c =
-    let a = c .before .before .before .before .before .before .before .before .before .args in
-    let w = rw (rd (c .before .before .before .before .before .before .before .before .before .fits .w)) at (c .put-signed .ensures) in
-    (c .before .before .before .before .before .before .put .ensures then c .before .before .before .before .put-digits .ensures then (one _ _ 32 then c .before .before .put-digits2 .ensures) then (one _ _ 32 then w) then one _ _ 10)
+    let z = c .before .before in
+    let y = z .before .before .before .before .before in
+    let x = y .before .before .before .before .before in
+    let w = x .before .before .before .before .before in
+    (w .put-number .ensures then x .put-number2 .ensures then (rw (rd (w .before .before .before .before .fits .w)) at (y .put-signed .ensures)) then z .put .ensures)
 
 pub put-edge-spec : {M : Type 1} → statement M
 put-edge-spec =
@@ -54,13 +26,11 @@ put-edge-spec =
     (tie.spec
     (λ c. search needs)
     (λ c κs. search needs)
-    put-digits-requires
-    element-write-out
-    add-put-digits
-    put-digits-requires-2
-    element-write-out-2
-    add-put-signed
+    (λ c. search needs)
+    (λ c κs. search needs)
+    (λ c. search needs)
     put-signed-requires
-    element-write-out-3
-    add-result
+    (λ c. search needs)
+    put-requires
+    (λ c. search needs)
     returns)

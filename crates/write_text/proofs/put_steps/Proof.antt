@@ -8,9 +8,9 @@ use lib.Seq.{length-take-le, getD-take}
 use Rattle.rules.specs.Eliminate as rule
 use Rattle.rules.specs.Record.{played, stepsOf, noStep}
 use Rattle.rules.specs.WriteText.{stepLine, stepLines}
-use Rattle.write_text.specs.Held.{Short}
-use Rattle.write_text.specs.WriteLaws.{steps-left, steps-none}
-use Rattle.write_text.specs.Puts.{Begins, Rest, begin, onward, fits, over}
+use Rattle.write_text.specs.Outcomes.{Short}
+use Rattle.write_text.specs.WriteLaws.{steps-left, steps-none, step-length}
+use Rattle.decimal.specs.Puts.{Begins, Rest, begin, onward, fits, over}
 use Rattle.write_text.proofs.put_steps.Statement.{statement}
 use Rattle.write_text.proofs.put_steps.Tie as tie
 
@@ -43,18 +43,19 @@ put-step-requires : tie.Need-put-step-requires Inv-loop μ-loop
 unfolding Short
 put-step-requires c κs =
     let l = c .before .before .before .loop in
-    let s = c .before .before .before .before in
-    (s .pre .1 (l .j), omega (arith, fits (l .inv .1) (step-at s (l .j) (omega arith))))
+    let s = c .before .before .before .before .before in
+    (s .pre .1 (l .j), omega (arith, fits (l .inv .1) (step-at s (l .j) (omega arith)), step-length (played (getD (s .args .t3 .steps) (l .j) noStep))))
 
 loop-again : tie.Need-loop-again Inv-loop μ-loop
 loop-again c =
-    let l = c .before .before .before .before .loop in
-    (omega arith, onward (l .inv .1) (step-at (c .before .before .before .before .before) (l .j) (omega arith)) (c .put-step .ensures))
+    let z = c .before .before in
+    let l = z .before .before .before .before .loop in
+    (omega arith, onward (l .inv .1) (step-at (z .before .before .before .before .before .before) (l .j) (omega arith)) (z .put-step .ensures))
 
 returns : tie.Need-returns Inv-loop μ-loop
 returns c =
     let l = c .before .loop in
-    let s = c .before .before in
+    let s = c .before .before .before in
     over (rw (steps-none (stepsOf (s .args .t3)) (l .j) (omega (arith, steps-length s))) at (l .inv .1))
 
 pub put-steps-spec : {M : Type 1} → statement M
@@ -71,4 +72,5 @@ put-steps-spec =
     (λ c. search needs)
     (λ c. search needs)
     loop-again
+    (λ c. search needs)
     returns)

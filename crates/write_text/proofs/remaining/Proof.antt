@@ -11,7 +11,7 @@ use lib.Seq.{take-suc-set}
 use borrow.Author.Tests.{eq-eqb, ne-eqb}
 use Rattle.whole.specs.Words.{from, upto, those}
 use Rattle.whole.specs.Those.{those-more, those-same}
-use Rattle.write_text.specs.HeldLaws.{remaining-upto}
+use Rattle.write_text.specs.OutcomeLaws.{remaining-upto}
 use Rattle.write_text.proofs.remaining.Statement.{statement}
 use Rattle.write_text.proofs.remaining.Tie as tie
 
