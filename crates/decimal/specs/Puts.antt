@@ -38,22 +38,22 @@ pub record Rest (l : List ℕ) (i : ℕ) (all m : List ℕ) (j : ℕ) (rest : Li
   pub place : j + length rest ≡ i + length all
   pub long : length m ≡ length l
 
-pub begin : (l : List ℕ) (i : ℕ) (all : List ℕ) → Rest l i all l i all
-begin l i all = record { list = refl; place = refl; long = refl }
+pub rest-all : (l : List ℕ) (i : ℕ) (all : List ℕ) → Rest l i all l i all
+rest-all l i all = record { list = refl; place = refl; long = refl }
 
-pub onward : {l all m n xs ys rest : List ℕ} {i j k : ℕ} → Rest l i all m j rest → Begins rest xs ys → Wrote m j xs n k → Rest l i all n k ys
-onward {l} {all} {m} {n} {xs} {ys} {rest} {i} {j} {k} r e w = record {
+pub rest-after : {l all m n xs ys rest : List ℕ} {i j k : ℕ} → Rest l i all m j rest → Begins rest xs ys → Wrote m j xs n k → Rest l i all n k ys
+rest-after {l} {all} {m} {n} {xs} {ys} {rest} {i} {j} {k} r e w = record {
   list = rw (w .list, w .place, ← sets-append xs m j ys, ← (e .parts)) (r .list);
   place = omega (arith, r .place, w .place, ap length (e .parts), length-append xs ys);
   long = w .long ∙ r .long;
 }
 
 -- there is room for what comes next
-pub fits : {l all m xs ys rest : List ℕ} {i j : ℕ} → Rest l i all m j rest → Begins rest xs ys → j + length xs ≤ i + length all
-fits {l} {all} {m} {xs} {ys} r e = omega (arith, r .place, ap length (e .parts), length-append xs ys)
+pub rest-fits : {l all m xs ys rest : List ℕ} {i j : ℕ} → Rest l i all m j rest → Begins rest xs ys → j + length xs ≤ i + length all
+rest-fits {l} {all} {m} {xs} {ys} r e = omega (arith, r .place, ap length (e .parts), length-append xs ys)
 
-pub over : {l all m : List ℕ} {i j : ℕ} → Rest l i all m j [] → Wrote l i all m j
-over r = record { list = r .list; place = omega (arith, r .place); long = r .long }
+pub rest-none : {l all m : List ℕ} {i j : ℕ} → Rest l i all m j [] → Wrote l i all m j
+rest-none r = record { list = r .list; place = omega (arith, r .place); long = r .long }
 
 -- bs stand at the front of m, as far as the place j; behind them m is what l was
 pub record AtFront (l bs m : List ℕ) (j : ℕ) : Type 0 where

@@ -52,28 +52,28 @@ ender-more (suc k) h = refl
 
 module _ {A : Type 0} (one : ℕ → List ℕ → Read A) (n at : ℕ) (t : List ℕ) where
   -- how far the line at `at` of the text t is read: i numbers, which stand at the front of `out`, as far as the place p
-  pub record Going (out : List A) (i p : ℕ) : Type 0 where
+  pub record ReadSoFar (out : List A) (i p : ℕ) : Type 0 where
     pub few : i ≤ n
     pub long : length out ≡ 64
     pub rest : line one n (drop at t) ≡ more one (take i out) (n - i) (drop p t)
 
-  pub going-start : (out : List A) → length out ≡ 64 → (n ≡ 0 → ⊥) → Going out 0 at
-  going-start out l h = record { few = omega arith; long = l; rest = line-start one n (drop at t) h }
+  pub so-far-none : (out : List A) → length out ≡ 64 → (n ≡ 0 → ⊥) → ReadSoFar out 0 at
+  so-far-none out l h = record { few = omega arith; long = l; rest = line-start one n (drop at t) h }
 
-  module _ {out : List A} {i p : ℕ} (g : Going out i p) where
+  module _ {out : List A} {i p : ℕ} (g : ReadSoFar out i p) where
     -- d is the byte that ends the next number
-    going-next : (d : ℕ) → i < n → d ≡ ender (n - i - 1) → line one n (drop at t) ≡ then (one d (drop p t)) (λ x r. more one (take i out ++ (x ∷ [])) (n - (i + 1)) r)
-    going-next d h e = rw (e, g .rest) (more-step one (take i out) n i (drop p t) h)
+    so-far-next : (d : ℕ) → i < n → d ≡ ender (n - i - 1) → line one n (drop at t) ≡ then (one d (drop p t)) (λ x r. more one (take i out ++ (x ∷ [])) (n - (i + 1)) r)
+    so-far-next d h e = rw (e, g .rest) (more-step one (take i out) n i (drop p t) h)
 
-    pub going-bad : (d : ℕ) → i < n → d ≡ ender (n - i - 1) → bad ≡ one d (drop p t) → bad ≡ line one n (drop at t)
-    going-bad d h e b = rw (going-next d h e, ← b)
+    pub so-far-bad : (d : ℕ) → i < n → d ≡ ender (n - i - 1) → bad ≡ one d (drop p t) → bad ≡ line one n (drop at t)
+    so-far-bad d h e b = rw (so-far-next d h e, ← b)
 
-    pub going-on : (d : ℕ) → i < n → n ≤ 64 → d ≡ ender (n - i - 1) → (x : A) (q : ℕ) → got x (drop q t) ≡ one d (drop p t) → Going (set out i x) (i + 1) q
-    going-on d h few e x q b = record {
+    pub so-far-more : (d : ℕ) → i < n → n ≤ 64 → d ≡ ender (n - i - 1) → (x : A) (q : ℕ) → got x (drop q t) ≡ one d (drop p t) → ReadSoFar (set out i x) (i + 1) q
+    so-far-more d h few e x q b = record {
       few = omega arith;
       long = length-set out i x ∙ g .long;
-      rest = rw (going-next d h e, ← b, front-more out i x (omega (arith, g .long)));
+      rest = rw (so-far-next d h e, ← b, front-more out i x (omega (arith, g .long)));
     }
 
-    pub going-end : n ≤ i → got (take n out) (drop p t) ≡ line one n (drop at t)
-    going-end h = let e : n ≡ i = omega (arith, g .few) in rw (g .rest, more-end one (take i out) n i (drop p t) h, e)
+    pub so-far-all : n ≤ i → got (take n out) (drop p t) ≡ line one n (drop at t)
+    so-far-all h = let e : n ≡ i = omega (arith, g .few) in rw (g .rest, more-end one (take i out) n i (drop p t) h, e)

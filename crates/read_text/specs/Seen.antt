@@ -57,17 +57,16 @@ seenInput ps fs is js ws (parsed.Given h) = given (objectiveOf (headOf h) (take 
 seenInput ps fs is js ws (parsed.Refused k) = refused k
 
 -- so many as the arrays hold
-abbrev pub Few : Parsed → Type 0
-Few (parsed.Given h) = (h .n ≤ 64) × (h .terms ≤ 1024)
-Few (parsed.Refused k) = Unit
+abbrev pub InArrays : Parsed → Type 0
+InArrays (parsed.Given h) = (h .n ≤ 64) × (h .terms ≤ 1024)
+InArrays (parsed.Refused k) = Unit
 
 -- the answer r, with what it left in the arrays, is the input i
 pub record ParsesInto (ps : List ℤ) (fs is js : List ℕ) (ws : List ℤ) (r : Parsed) (i : Input) : Type 0 where
   pub reads : seenInput ps fs is js ws r ≡ i
-  pub few : Few r
-  pub long : Lengths ps fs is js ws
+  pub few : InArrays r
 
 -- the text r, read, is the input i
 pub record Parses (r : Text) (i : Input) : Type 0 where
   pub reads : seenInput (r .weights) (r .fixings) (r .firsts) (r .seconds) (r .«term_weights») (r .parsed) ≡ i
-  pub few : Few (r .parsed)
+  pub few : InArrays (r .parsed)

@@ -38,8 +38,7 @@ fn read_empty(text: &[u8], at: usize) -> Line
 // A line of n weights, into the front of `out`.
 pub fn read_weights(text: &[u8], at: usize, n: usize, out: &mut [i64; 64]) -> Line
     requires { ⌜ (n ≤ 64) × (length (now out) ≡ 64) ⌝ }
-    ensures reads { λ r. ⌜ seenLine (now (text .entry)) (take n (now (out .exit))) r ≡ line weight n (drop at (now (text .entry))) ⌝ }
-    ensures long { λ r. ⌜ length (now (out .exit)) ≡ 64 ⌝ }
+    ensures { λ r. ⌜ seenLine (now (text .entry)) (take n (now (out .exit))) r ≡ line weight n (drop at (now (text .entry))) ⌝ }
 {
     if n == 0 {
         return read_empty(text, at);
@@ -129,8 +128,7 @@ pub fn read_u8(text: &[u8], at: usize, end: u8) -> Byte
 // A line of n fixing bytes, into the front of `out`.
 pub fn read_fixings(text: &[u8], at: usize, n: usize, out: &mut [u8; 64]) -> Line
     requires { ⌜ (n ≤ 64) × (length (now out) ≡ 64) ⌝ }
-    ensures reads { λ r. ⌜ seenLine (now (text .entry)) (take n (now (out .exit))) r ≡ line number8 n (drop at (now (text .entry))) ⌝ }
-    ensures long { λ r. ⌜ length (now (out .exit)) ≡ 64 ⌝ }
+    ensures { λ r. ⌜ seenLine (now (text .entry)) (take n (now (out .exit))) r ≡ line number8 n (drop at (now (text .entry))) ⌝ }
 {
     if n == 0 {
         return read_empty(text, at);
@@ -158,8 +156,7 @@ pub fn read_terms(
     weights: &mut [i64; 1024],
 ) -> Line
     requires { ⌜ (k ≤ 1024) × (length (now firsts) ≡ 1024) × (length (now seconds) ≡ 1024) × (length (now weights) ≡ 1024) ⌝ }
-    ensures reads { λ r. ⌜ seenTerms (now (text .entry)) (take k (now (firsts .exit))) (take k (now (seconds .exit))) (take k (now (weights .exit))) r ≡ terms [] [] [] k (drop at (now (text .entry))) ⌝ }
-    ensures long { λ r. ⌜ (length (now (firsts .exit)) ≡ 1024) × (length (now (seconds .exit)) ≡ 1024) × (length (now (weights .exit)) ≡ 1024) ⌝ }
+    ensures { λ r. ⌜ seenTerms (now (text .entry)) (take k (now (firsts .exit))) (take k (now (seconds .exit))) (take k (now (weights .exit))) r ≡ terms [] [] [] k (drop at (now (text .entry))) ⌝ }
 {
     let mut p = at;
     let mut m = 0;

@@ -1,17 +1,15 @@
 use borrow.Author.Needs.{needs}
 use Prim.Native.Nat.{_≤_, _-_}
-use mathlib.Core.Path.{_≡_, ap, sym, _∙_}
+use mathlib.Core.Path.{_≡_, _∙_}
 use mathlib.Core.List.{[]}
 use native.Mathlib.Omega.{arith}
 use lib.ListN.{length, take, drop, length-set}
 use mir.Syntax.{w64}
 use mir.Val.{SFits}
 use Rattle.whole.specs.Ints.{rd}
-use Rattle.rules.specs.ReadText.{got, number32, terms}
+use Rattle.rules.specs.ReadText.{terms}
 use Rattle.read_text.specs.ReadLaws.{terms-step, terms-end}
 use Rattle.whole.specs.Stores.{front-more}
-use Rattle.decimal.specs.Seen.{seenZ}
-use Rattle.read_text.specs.Seen.{seen32}
 use Rattle.read_text.proofs.read_terms.Statement.{statement}
 use Rattle.read_text.proofs.read_terms.Tie as tie
 
@@ -21,39 +19,41 @@ Inv-loop text at k firsts₀ seconds₀ weights₀ p₀ m₀ firsts seconds weig
 abbrev μ-loop : tie.MeasureT-loop
 μ-loop text at k firsts₀ seconds₀ weights₀ p₀ m₀ firsts seconds weights p m = k - m
 
--- what the numbers are that were read
-i-read : (c : tie.After-known-told Inv-loop μ-loop) → got (c .before .i .given .0 .0) (drop (c .before .i .given .0 .1 .0) (c .before .before .before .before .before .before .before .args .text .now)) ≡ number32 32 (drop (c .before .before .before .before .before .loop .p) (c .before .before .before .before .before .before .before .args .text .now))
-i-read c = ap (seen32 (c .before .before .before .before .before .before .before .args .text .now)) (sym (c .before .i .given .1)) ∙ c .before .before .before .read-u32 .ensures
-
-j-read : (c : tie.After-known-told2 Inv-loop μ-loop) → got (c .before .j .given .0 .0) (drop (c .before .j .given .0 .1 .0) (c .before .before .before .before .before .before .before .before .before .before .before .args .text .now)) ≡ number32 32 (drop (c .before .before .before .before .before .i .given .0 .1 .0) (c .before .before .before .before .before .before .before .before .before .before .before .args .text .now))
-j-read c = ap (seen32 (c .before .before .before .before .before .before .before .before .before .before .before .args .text .now)) (sym (c .before .j .given .1)) ∙ c .before .before .before .read-u322 .ensures
-
 loop-holds : tie.Need-loop-holds Inv-loop μ-loop
 loop-holds c =
     let p = c .before .pre in (omega arith, p .1, p .2, p .3, let e : c .before .args .k - 0 ≡ c .before .args .k = omega arith in rw e)
 
 returns : tie.Need-returns Inv-loop μ-loop
 returns c =
-    let a = c .before .before .before .before .before .before .args in
-    let l = c .before .before .before .before .loop in
-    (rw (l .inv .4, terms-step (take (l .m) (l .firsts)) (take (l .m) (l .seconds)) (take (l .m) (l .weights)) (a .k) (l .m) (drop (l .p) (a .text .now)) (omega arith), ← (ap (seen32 (a .text .now)) (sym (c .enum-told .given .1)) ∙ c .before .before .read-u32 .ensures)), (l .inv .1, l .inv .2, l .inv .3))
+    let x = c .before .before in
+    let l = x .before .before .loop in
+    let a = x .before .before .before .before .args in
+    rw (l .inv .4, terms-step (take (l .m) (l .firsts)) (take (l .m) (l .seconds)) (take (l .m) (l .weights)) (a .k) (l .m) (drop (l .p) (a .text .now)) (omega arith), ← (rw (c .enum-told .given .1) at (x .read-u32 .ensures)))
 
 returns-2 : tie.Need-returns-2 Inv-loop μ-loop
 returns-2 c =
-    let a = c .before .before .before .before .before .before .before .before .before .before .args in
-    let l = c .before .before .before .before .before .before .before .before .loop in
-    (rw (l .inv .4, terms-step (take (l .m) (l .firsts)) (take (l .m) (l .seconds)) (take (l .m) (l .weights)) (a .k) (l .m) (drop (l .p) (a .text .now)) (omega arith), ← i-read (c .before .before .before), ← (ap (seen32 (a .text .now)) (sym (c .enum-told2 .given .1)) ∙ c .before .before .read-u322 .ensures)), (l .inv .1, l .inv .2, l .inv .3))
+    let y = c .before .before in
+    let x = y .before .before .before .before in
+    let l = x .before .before .loop in
+    let a = x .before .before .before .before .args in
+    rw (l .inv .4, terms-step (take (l .m) (l .firsts)) (take (l .m) (l .seconds)) (take (l .m) (l .weights)) (a .k) (l .m) (drop (l .p) (a .text .now)) (omega arith), ← (rw (y .before .before .i .given .1) at (x .read-u32 .ensures)), ← (rw (c .enum-told2 .given .1) at (y .read-u322 .ensures)))
 
 returns-3 : tie.Need-returns-3 Inv-loop μ-loop
 returns-3 c =
-    let a = c .before .before .before .before .before .before .before .before .before .before .before .before .before .before .args in
-    let l = c .before .before .before .before .before .before .before .before .before .before .before .before .loop in
-    (rw (l .inv .4, terms-step (take (l .m) (l .firsts)) (take (l .m) (l .seconds)) (take (l .m) (l .weights)) (a .k) (l .m) (drop (l .p) (a .text .now)) (omega arith), ← i-read (c .before .before .before .before .before .before .before), ← j-read (c .before .before .before), ← (ap (seenZ (a .text .now)) (sym (c .enum-told3 .given .1)) ∙ c .before .before .read-signed .ensures)), (l .inv .1, l .inv .2, l .inv .3))
+    let z = c .before .before in
+    let y = z .before .before .before .before in
+    let x = y .before .before .before .before in
+    let l = x .before .before .loop in
+    let a = x .before .before .before .before .args in
+    rw (l .inv .4, terms-step (take (l .m) (l .firsts)) (take (l .m) (l .seconds)) (take (l .m) (l .weights)) (a .k) (l .m) (drop (l .p) (a .text .now)) (omega arith), ← (rw (y .before .before .i .given .1) at (x .read-u32 .ensures)), ← (rw (z .before .before .j .given .1) at (y .read-u322 .ensures)), ← (rw (c .enum-told3 .given .1) at (z .read-signed .ensures)))
 
 loop-again : tie.Need-loop-again Inv-loop μ-loop
 loop-again c =
-    let a = c .before .before .before .before .before .before .before .before .before .before .before .before .before .before .before .args in
-    let l = c .before .before .before .before .before .before .before .before .before .before .before .before .before .loop in
+    let z = c .before .before .before in
+    let y = z .before .before .before .before in
+    let x = y .before .before .before .before in
+    let l = x .before .before .loop in
+    let a = x .before .before .before .before .args in
     let f : SFits w64 (c .before .w .given .0 .0) = search needs in (
       omega arith,
       length-set (l .firsts) (l .m) _ ∙ l .inv .1,
@@ -62,9 +62,9 @@ loop-again c =
       rw (
         l .inv .4,
         terms-step (take (l .m) (l .firsts)) (take (l .m) (l .seconds)) (take (l .m) (l .weights)) (a .k) (l .m) (drop (l .p) (a .text .now)) (omega arith),
-        ← i-read (c .before .before .before .before .before .before .before .before),
-        ← j-read (c .before .before .before .before),
-        ← (ap (seenZ (a .text .now)) (sym (c .before .w .given .1)) ∙ c .before .before .before .read-signed .ensures),
+        ← (rw (y .before .before .i .given .1) at (x .read-u32 .ensures)),
+        ← (rw (z .before .before .j .given .1) at (y .read-u322 .ensures)),
+        ← (rw (c .before .w .given .1) at (z .read-signed .ensures)),
         rd f,
         front-more (l .firsts) (l .m) _ (omega arith),
         front-more (l .seconds) (l .m) _ (omega arith),
@@ -77,7 +77,7 @@ returns-4 c =
     let a = c .before .before .before .args in
     let l = c .before .loop in
     let e : a .k ≡ l .m = omega arith in
-    (rw (l .inv .4, terms-end (take (l .m) (l .firsts)) (take (l .m) (l .seconds)) (take (l .m) (l .weights)) (a .k) (l .m) (drop (l .p) (a .text .now)) (omega arith), e), (l .inv .1, l .inv .2, l .inv .3))
+    rw (l .inv .4, terms-end (take (l .m) (l .firsts)) (take (l .m) (l .seconds)) (take (l .m) (l .weights)) (a .k) (l .m) (drop (l .p) (a .text .now)) (omega arith), e)
 
 pub read-terms-spec : {M : Type 1} → statement M
 read-terms-spec =

@@ -4,7 +4,7 @@ use native.Mathlib.Omega.{arith}
 use lib.ListN.{length, length-append, drop}
 use Rattle.rules.specs.WriteText.{listed}
 use Rattle.write_text.specs.WriteLaws.{listed-left, listed-none}
-use Rattle.decimal.specs.Puts.{_then_, Rest, begin, onward, fits, over}
+use Rattle.decimal.specs.Puts.{_then_, Rest, rest-all, rest-after, rest-fits, rest-none}
 use Rattle.write_text.proofs.put_list.Statement.{statement}
 use Rattle.write_text.proofs.put_list.Tie as tie
 
@@ -15,26 +15,26 @@ abbrev μ-loop : tie.MeasureT-loop
 μ-loop out₀ at label xs p₀ j₀ t out p j = length xs - j
 
 loop-holds : tie.Need-loop-holds Inv-loop μ-loop
-loop-holds c = (omega arith, begin _ _ _)
+loop-holds c = (omega arith, rest-all _ _ _)
 
 put-number-requires : tie.Need-put-number-requires Inv-loop μ-loop
 put-number-requires c κs =
     let l = c .before .before .before .before .before .loop in
     let a = c .before .before .before .before .before .before .before .before .before .before .before .before .before .args in
-    rw (c .before .before .wide .ensures) (omega (arith, length-append (a .label .now) (listed (a .xs .now)), fits (l .inv .1) (listed-left (a .xs .now) (l .j) (omega arith))))
+    rw (c .before .before .wide .ensures) (omega (arith, length-append (a .label .now) (listed (a .xs .now)), rest-fits (l .inv .1) (listed-left (a .xs .now) (l .j) (omega arith))))
 
 loop-again : tie.Need-loop-again Inv-loop μ-loop
 loop-again c =
     let z = c .before .before in
     let y = z .before .before .before in
     let l = y .before .before .before .loop in
-    (omega arith, onward (l .inv .1) (listed-left (y .before .before .before .before .before .before .before .before .before .before .before .args .xs .now) (l .j) (omega arith)) (rw (y .wide .ensures) at (z .put-number .ensures)))
+    (omega arith, rest-after (l .inv .1) (listed-left (y .before .before .before .before .before .before .before .before .before .before .before .args .xs .now) (l .j) (omega arith)) (rw (y .wide .ensures) at (z .put-number .ensures)))
 
 returns : tie.Need-returns Inv-loop μ-loop
 returns c =
     let l = c .before .loop in
     let z = c .before .before .before .before in
-    (z .put .ensures then over (rw (listed-none (z .before .before .before .before .before .args .xs .now) (l .j) (omega arith)) at (l .inv .1)))
+    (z .put .ensures then rest-none (rw (listed-none (z .before .before .before .before .before .args .xs .now) (l .j) (omega arith)) at (l .inv .1)))
 
 pub put-list-spec : {M : Type 1} → statement M
 put-list-spec =

@@ -10,7 +10,7 @@ use Rattle.rules.specs.Record.{played, stepsOf, noStep}
 use Rattle.rules.specs.WriteText.{stepLine, stepLines}
 use Rattle.write_text.specs.Outcomes.{Short}
 use Rattle.write_text.specs.WriteLaws.{steps-left, steps-none, step-length}
-use Rattle.decimal.specs.Puts.{Begins, Rest, begin, onward, fits, over}
+use Rattle.decimal.specs.Puts.{Begins, Rest, rest-all, rest-after, rest-fits, rest-none}
 use Rattle.write_text.proofs.put_steps.Statement.{statement}
 use Rattle.write_text.proofs.put_steps.Tie as tie
 
@@ -37,26 +37,26 @@ step-at c j h =
     subst (λ (s : rule.Step). Begins (stepLines (drop j (stepsOf r))) (stepLine s) (stepLines (drop (j + 1) (stepsOf r)))) e (steps-left (stepsOf r) (played noStep) j (omega (arith, steps-length c)))
 
 loop-holds : tie.Need-loop-holds Inv-loop μ-loop
-loop-holds c = (omega arith, begin _ _ _)
+loop-holds c = (omega arith, rest-all _ _ _)
 
 put-step-requires : tie.Need-put-step-requires Inv-loop μ-loop
 unfolding Short
 put-step-requires c κs =
     let l = c .before .before .before .loop in
     let s = c .before .before .before .before .before in
-    (s .pre .1 (l .j), omega (arith, fits (l .inv .1) (step-at s (l .j) (omega arith)), step-length (played (getD (s .args .t3 .steps) (l .j) noStep))))
+    (s .pre .1 (l .j), omega (arith, rest-fits (l .inv .1) (step-at s (l .j) (omega arith)), step-length (played (getD (s .args .t3 .steps) (l .j) noStep))))
 
 loop-again : tie.Need-loop-again Inv-loop μ-loop
 loop-again c =
     let z = c .before .before in
     let l = z .before .before .before .before .loop in
-    (omega arith, onward (l .inv .1) (step-at (z .before .before .before .before .before .before) (l .j) (omega arith)) (z .put-step .ensures))
+    (omega arith, rest-after (l .inv .1) (step-at (z .before .before .before .before .before .before) (l .j) (omega arith)) (z .put-step .ensures))
 
 returns : tie.Need-returns Inv-loop μ-loop
 returns c =
     let l = c .before .loop in
     let s = c .before .before .before in
-    over (rw (steps-none (stepsOf (s .args .t3)) (l .j) (omega (arith, steps-length s))) at (l .inv .1))
+    rest-none (rw (steps-none (stepsOf (s .args .t3)) (l .j) (omega (arith, steps-length s))) at (l .inv .1))
 
 pub put-steps-spec : {M : Type 1} → statement M
 put-steps-spec =
