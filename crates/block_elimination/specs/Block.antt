@@ -24,16 +24,16 @@ pub record Lowest (c : ℕ → ℕ → ℤ) (count size : ℕ) (masks : List ℕ
 abbrev pub pairOf : ℕ → ℕ → ℕ → List ℕ
 pairOf first second width = take width (first ∷ second ∷ [])
 
-abbrev pub nearOf : Outside → List ℕ
-nearOf o = pairOf (o .first) (o .second) (o .width)
+abbrev pub outsideOf : Outside → List ℕ
+outsideOf o = pairOf (o .first) (o .second) (o .width)
 
 -- at most two decisions, and 0 for one that is missing
 pub record Beside (o : Outside) : Type 0 where
   pub few : o .width ≤ 2
   pub one : o .first < 64
   pub two : o .second < 64
-  pub first : getD (nearOf o) 0 0 ≡ o .first
-  pub second : getD (nearOf o) 1 0 ≡ o .second
+  pub first : getD (outsideOf o) 0 0 ≡ o .first
+  pub second : getD (outsideOf o) 1 0 ≡ o .second
 
 -- the step of the member i at place k
 abbrev pub memberStep : List ℕ → List ℕ → ℕ → ℕ → Step

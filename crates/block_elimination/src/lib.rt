@@ -1,21 +1,23 @@
 // Eliminating a small block: its members leave, what they cost at best goes to its boundary, and each gets a step.
 ghost use mathlib.Core.Path.{_≡_};
 ghost use mathlib.Core.List.{List, _++_};
-ghost use Prim.Native.Nat.{_+_, _<_, _≤_, _^_};
+ghost use Prim.Native.Nat.{ℕ, _+_, _<_, _≤_, _^_};
 ghost use lib.ListN.{getD, take};
+ghost use lib.IntN.{ℤ};
 ghost use Rattle.whole.specs.Words.{oneIf, bit, bitsFrom, tab};
+ghost use Rattle.rules.specs.Graph.{graph};
 ghost use Rattle.rules.specs.Eliminate as rule;
 ghost use Rattle.rules.specs.Record.{hold};
 ghost use Rattle.rules.specs.Size.{Within};
 ghost use Rattle.rules.specs.SmallBlock.{inner, dropAll, eliminateBlock, blockSteps};
 ghost use Rattle.graph.specs.Held.{held};
 ghost use Rattle.graph.specs.Shows.{Shows};
-ghost use Rattle.steps.specs.Kept.{Kept};
+ghost use Rattle.state.specs.Steps.{StepsKept};
 ghost use Rattle.block_minima.specs.Weights.{weights, Listed};
-ghost use Rattle.block_elimination.specs.Block.{Lowest, Beside, nearOf, memberStep, Eliminable};
+ghost use Rattle.block_elimination.specs.Block.{Lowest, Beside, outsideOf, memberStep, Eliminable};
 use graph::Frame;
 use rules::Step;
-use steps::Steps;
+use state::steps::Steps;
 
 // For each filling of the boundary the winning mask, and the table of what it costs.
 pub struct Winners {
@@ -96,7 +98,7 @@ fn choices(masks: &[usize; 4], k: usize) -> u8
 // The step of the member i at place k.
 fn member_step(masks: &[usize; 4], o: Outside, k: usize, i: usize) -> Step
     requires { ⌜ Beside o × (k < 64) × (i < 64) ⌝ }
-    ensures { λ r. ⌜ r ≡ hold (memberStep (nearOf o) (now (masks .entry)) k i) ⌝ }
+    ensures { λ r. ⌜ r ≡ hold (memberStep (outsideOf o) (now (masks .entry)) k i) ⌝ }
 {
     let c = choices(masks, k);
     Step {
@@ -118,14 +120,14 @@ pub fn block_steps(
     steps: Steps,
 ) -> Steps
     requires { ⌜ Listed (now order) count × Beside o × (steps .count + count ≤ 64) ⌝ }
-    ensures { λ r. ⌜ ((ss : List rule.Step) → Kept steps ss → Kept r (ss ++ tab (λ k. memberStep (nearOf o) (now (masks .entry)) k (getD (now (order .entry)) k 0)) count)) ⌝ }
+    ensures { λ r. ⌜ ((ss : List rule.Step) → StepsKept steps ss → StepsKept r (ss ++ tab (λ k. memberStep (outsideOf o) (now (masks .entry)) k (getD (now (order .entry)) k 0)) count)) ⌝ }
 {
     let mut s = steps;
     let mut k: usize = 0;
     while k < count {
         let i = order[k];
         let x = member_step(masks, o, k, i);
-        let more = steps::with_step(s, x);
+        let more = state::steps::with_step(s, x);
         s = more;
         k = k + 1;
     }
@@ -139,23 +141,21 @@ pub fn drop_all(
     lin: &mut [i64; 64],
     edges: &mut [i64; 4096],
     masks: &mut [u64; 64],
-    f: Frame,
+    states: &mut [u8; 64],
     order: &[usize; 64],
     count: usize,
-) -> Frame
-    requires { ⌜ Listed (now order) count × (f .n ≤ 64) × Shows (f .n) (now edges) (now masks) ⌝ }
-    ensures { λ r. ⌜ (held r (now (lin .exit)) (now (edges .exit)) ≡ dropAll (take count (now (order .entry))) (held f (now (lin .entry)) (now (edges .entry))))
-        × Shows (f .n) (now (edges .exit)) (now (masks .exit)) ⌝ }
+)
+    requires { ⌜ Listed (now order) count ⌝ }
+    ensures { λ _. ⌜ ((n : ℕ) (c : ℤ) → n ≤ 64 → Shows n (now (edges .entry)) (now (masks .entry))
+        → (graph n c (now (lin .exit)) (now (edges .exit)) (now (states .exit)) ≡ dropAll (take count (now (order .entry))) (graph n c (now (lin .entry)) (now (edges .entry)) (now (states .entry))))
+        × Shows n (now (edges .exit)) (now (masks .exit))) ⌝ }
 {
-    let mut g = f;
     let mut k: usize = 0;
     while k < count {
         let i = order[k];
-        let left = graph::drop_to(lin, edges, masks, g, 3, i);
-        g = left;
+        graph::drop_to(lin, edges, masks, states, 3, i);
         k = k + 1;
     }
-    g
 }
 
 // A decision of a list of `count`; 0 past its end.
@@ -174,19 +174,19 @@ pub fn eliminate_block(
     lin: &mut [i64; 64],
     edges: &mut [i64; 4096],
     masks: &mut [u64; 64],
+    states: &mut [u8; 64],
     f: Frame,
     order: &[usize; 64],
     count: usize,
     steps: Steps,
 ) -> Blocked
-    requires { ⌜ Eliminable (held f (now lin) (now edges)) (now order) count × (steps .count + count ≤ 64) × Shows (f .n) (now edges) (now masks) ⌝ }
-    ensures { λ r. ⌜ (held (r .frame) (now (lin .exit)) (now (edges .exit)) ≡ eliminateBlock (take count (now (order .entry))) (held f (now (lin .entry)) (now (edges .entry))))
+    requires { ⌜ Eliminable (held f (now lin) (now edges) (now states)) (now order) count × (steps .count + count ≤ 64) × Shows (f .n) (now edges) (now masks) ⌝ }
+    ensures { λ r. ⌜ (held (r .frame) (now (lin .exit)) (now (edges .exit)) (now (states .exit)) ≡ eliminateBlock (take count (now (order .entry))) (held f (now (lin .entry)) (now (edges .entry)) (now (states .entry))))
         × Shows (f .n) (now (edges .exit)) (now (masks .exit))
-        × ((ss : List rule.Step) → Kept steps ss → Kept (r .steps) (ss ++ blockSteps (held f (now (lin .entry)) (now (edges .entry))) (take count (now (order .entry))) 0 (take count (now (order .entry))))) ⌝ }
+        × ((ss : List rule.Step) → StepsKept steps ss → StepsKept (r .steps) (ss ++ blockSteps (held f (now (lin .entry)) (now (edges .entry)) (now (states .entry))) (take count (now (order .entry))) 0 (take count (now (order .entry))))) ⌝ }
 {
-    let n = f.n;
     let mut out: [usize; 64] = [0; 64];
-    let width = small_block::boundary_of(edges, n, order, count, &mut out);
+    let width = small_block::boundary_of(masks, order, count, &mut out);
     let best = minima(lin, edges, order, count, &out, width);
     let first = place(&out, width, 0);
     let second = place(&out, width, 1);
@@ -197,9 +197,9 @@ pub fn eliminate_block(
     };
     let winners = best.masks;
     let grown = block_steps(order, count, outside, &winners, steps);
-    let dropped = drop_all(lin, edges, masks, f, order, count);
+    drop_all(lin, edges, masks, states, order, count);
     let table = best.table;
-    let left = low_degree::absorb(lin, edges, masks, dropped, table, width, first, second);
+    let left = low_degree::absorb(lin, edges, masks, f, table, width, first, second);
     Blocked {
         frame: left,
         steps: grown,

@@ -15,3 +15,4 @@ pub mod BlockCost
 pub mod Found
 pub mod BlockSteps
 pub mod Stands
+pub mod SameN

@@ -23,14 +23,14 @@ pub moebius-table : (t : ℕ → ℤ) → tab (moebius (λ m. getD (tab t 8) m (
 unfolding tab moebius
 moebius-table t = refl
 
-pub absorb-made : (e : ℕ → ℤ) (near : List ℕ) (f g : Frame) (l l₁ l₂ l₃ d d₁ : List ℤ) → g ≡ withConstant f (f .constant +ℤ e 0)
+pub absorb-made : (e : ℕ → ℤ) (near : List ℕ) (f g : Frame) (l l₁ l₂ l₃ d d₁ : List ℤ) (ss : List ℕ) → g ≡ withConstant f (f .constant +ℤ e 0)
     → l₁ ≡ set l (getD near 0 0) (getD l (getD near 0 0) (pos 0) +ℤ e 1)
     → l₂ ≡ set l₁ (getD near 1 0) (getD l₁ (getD near 1 0) (pos 0) +ℤ e 2)
     → l₃ ≡ set l₂ (getD near 2 0) (getD l₂ (getD near 2 0) (pos 0) +ℤ e 4)
-    → DoesEdges (addPairs e near pairs) d d₁ → held g l₃ d₁ ≡ absorb3 e near (held f l d)
+    → DoesEdges (addPairs e near pairs) d d₁ → held g l₃ d₁ ss ≡ absorb3 e near (held f l d ss)
 unfolding absorb3 addConstant addLinear
-absorb-made e near f g l l₁ l₂ l₃ d d₁ h p q r s =
-    ap (λ (x : Frame). held x l₃ d₁) h ∙ s (f .n) (f .constant +ℤ e 0) l₃ (f .states) ∙ ap (addPairs e near pairs) (rw (r, q, p))
+absorb-made e near f g l l₁ l₂ l₃ d d₁ ss h p q r s =
+    ap (λ (x : Frame). held x l₃ d₁ ss) h ∙ s (f .n) (f .constant +ℤ e 0) l₃ ss ∙ ap (addPairs e near pairs) (rw (r, q, p))
 
 absorb-same : (e u : ℕ → ℤ) (near js : List ℕ) (g : Graph) → ((m : ℕ) → m < 8 → e m ≡ u m) → ((k : ℕ) → k < 3 → getD near k 0 ≡ getD js k 0) → absorb3 e near g ≡ absorb3 u js g
 unfolding absorb3 addPairs

@@ -1,6 +1,7 @@
 // Eliminating a decision that has three neighbours, where that leaves no cubic term.
 ghost use mathlib.Core.Path.{_≡_};
 ghost use mathlib.Core.Bool.{cond};
+ghost use mathlib.Core.List.{List, []};
 ghost use Prim.Native.Nat.{ℕ, _<_, _≤_, _^_};
 ghost use lib.ListN.{getD};
 ghost use lib.IntN.{pos};
@@ -60,19 +61,27 @@ pub fn moebius(t: [i64; 8]) -> [i64; 8]
     requires { ⌜ Small (2 ^ 50) t ⌝ }
     ensures { λ r. ⌜ r ≡ tab (transformed (λ m. getD t m (pos 0))) 8 ⌝ }
 {
-    let s1 = t[1] - t[0];
-    let s3 = t[3] - t[2];
-    let s5 = t[5] - t[4];
-    let s7 = t[7] - t[6];
-    let u2 = t[2] - t[0];
+    let t0 = t[0];
+    let t1 = t[1];
+    let t2 = t[2];
+    let t3 = t[3];
+    let t4 = t[4];
+    let t5 = t[5];
+    let t6 = t[6];
+    let t7 = t[7];
+    let s1 = t1 - t0;
+    let s3 = t3 - t2;
+    let s5 = t5 - t4;
+    let s7 = t7 - t6;
+    let u2 = t2 - t0;
     let u3 = s3 - s1;
-    let u6 = t[6] - t[4];
+    let u6 = t6 - t4;
     let u7 = s7 - s5;
-    let e4 = t[4] - t[0];
+    let e4 = t4 - t0;
     let e5 = s5 - s1;
     let e6 = u6 - u2;
     let e7 = u7 - u3;
-    [t[0], s1, u2, u3, e4, e5, e6, e7]
+    [t0, s1, u2, u3, e4, e5, e6, e7]
 }
 
 // Each pair's edge gains its entry.
@@ -110,8 +119,8 @@ pub fn absorb_three(
     near: graph::Near,
     entries: [i64; 8],
 ) -> graph::Frame
-    requires { ⌜ Triple 64 (near .list) × Within (held f (now lin) (now edges)) × Small (2 ^ 54) entries ⌝ }
-    ensures { λ r. ⌜ (held r (now (lin .exit)) (now (edges .exit)) ≡ absorb3 (λ m. getD entries m (pos 0)) (near .list) (held f (now (lin .entry)) (now (edges .entry))))
+    requires { ⌜ Triple 64 (near .list) × Within (held f (now lin) (now edges) []) × Small (2 ^ 54) entries ⌝ }
+    ensures { λ r. ⌜ ((ss : List ℕ) → held r (now (lin .exit)) (now (edges .exit)) ss ≡ absorb3 (λ m. getD entries m (pos 0)) (near .list) (held f (now (lin .entry)) (now (edges .entry)) ss))
         × ((n : ℕ) → ((k : ℕ) → k < 3 → getD (near .list) k 0 < n) → Shows n (now (edges .entry)) (now (masks .entry)) → Shows n (now (edges .exit)) (now (masks .exit))) ⌝ }
 {
     let list = near.list;
@@ -135,15 +144,16 @@ pub fn eliminate_three(
     lin: &mut [i64; 64],
     edges: &mut [i64; 4096],
     masks: &mut [u64; 64],
+    states: &mut [u8; 64],
     f: graph::Frame,
     near: graph::Near,
     i: usize,
 ) -> Tried
-    requires { ⌜ (i < 64) × (f .n ≤ 64) × Within (held f (now lin) (now edges)) × (near ≡ nearOf (held f (now lin) (now edges)) i) × (near .count ≡ 3) × Shows (f .n) (now edges) (now masks) ⌝ }
-    ensures { λ r. ⌜ (r .cubic ≡ cubic (held f (now (lin .entry)) (now (edges .entry))) i)
-        × (held (r .frame) (now (lin .exit)) (now (edges .exit)) ≡ cond (cubic (held f (now (lin .entry)) (now (edges .entry))) i) (held f (now (lin .entry)) (now (edges .entry))) (eliminate3 i (held f (now (lin .entry)) (now (edges .entry)))))
+    requires { ⌜ (i < 64) × (f .n ≤ 64) × Within (held f (now lin) (now edges) (now states)) × (near ≡ nearOf (held f (now lin) (now edges) (now states)) i) × (near .count ≡ 3) × Shows (f .n) (now edges) (now masks) ⌝ }
+    ensures { λ r. ⌜ (r .cubic ≡ cubic (held f (now (lin .entry)) (now (edges .entry)) (now (states .entry))) i)
+        × (held (r .frame) (now (lin .exit)) (now (edges .exit)) (now (states .exit)) ≡ cond (cubic (held f (now (lin .entry)) (now (edges .entry)) (now (states .entry))) i) (held f (now (lin .entry)) (now (edges .entry)) (now (states .entry))) (eliminate3 i (held f (now (lin .entry)) (now (edges .entry)) (now (states .entry)))))
         × Shows (f .n) (now (edges .exit)) (now (masks .exit))
-        × (r .step ≡ cond (cubic (held f (now (lin .entry)) (now (edges .entry))) i) noStep (hold (stepOf (held f (now (lin .entry)) (now (edges .entry))) i))) ⌝ }
+        × (r .step ≡ cond (cubic (held f (now (lin .entry)) (now (edges .entry)) (now (states .entry))) i) noStep (hold (stepOf (held f (now (lin .entry)) (now (edges .entry)) (now (states .entry))) i))) ⌝ }
 {
     let a = lin[i];
     let table = low_degree::table_of(a, near);
@@ -152,14 +162,7 @@ pub fn eliminate_three(
     let e = moebius(t);
     let cube = e[7];
     if cube != 0 {
-        let none = rules::Step {
-            decision: 0,
-            degree: 0,
-            first: 0,
-            second: 0,
-            third: 0,
-            choices: 0,
-        };
+        let none = rules::no_step();
         return Tried {
             cubic: true,
             frame: f,
@@ -167,8 +170,8 @@ pub fn eliminate_three(
         };
     }
     let step = low_degree::step_of(i, near, d);
-    let dropped = graph::drop_to(lin, edges, masks, f, 3, i);
-    let left = absorb_three(lin, edges, masks, dropped, near, e);
+    graph::drop_to(lin, edges, masks, states, 3, i);
+    let left = absorb_three(lin, edges, masks, f, near, e);
     Tried {
         cubic: false,
         frame: left,

@@ -1,14 +1,9 @@
 -- What stands behind demand 3, each statement of Demands from the crate that proves it.
 -- Assumes nothing.
-use mathlib.Core.List.{[]}
 use Prim.Native.Nat.{ℕ, _<_, _≤_}
-use native.Mathlib.Omega.{arith}
-use lib.ListN.{length, length-map}
-use lib.IntN.{+ℤ-idr}
-use Rattle.whole.specs.Pigeon.{pigeon}
+use Rattle.rules.specs.Options.{asked}
 use Rattle.rules.specs.Objective.{Objective}
-use Rattle.rules.specs.Graph.{Graph, lin, edge, neighbours, row}
-use Rattle.rules.specs.DominantEdge.{negatives, positives, lo, hi}
+use Rattle.rules.specs.Graph.{Graph}
 use Rattle.rules.specs.Eliminate.{eliminate, tee}
 use Rattle.rules.specs.DegreeThree.{eliminate3}
 use Rattle.rules.specs.Fixing.{start}
@@ -27,8 +22,8 @@ use Rattle.objective_laws.specs.Theorems.{graph-cost, start-cost}
 use Rattle.sound_laws.specs.SoundRun.{run-sound, begin-sound}
 use Rattle.sound_laws.specs.SoundStart.{start-stands}
 use Rattle.size_laws.specs.RunWithin.{run-within}
-use Rattle.size_laws.specs.Sizes.{moebius-size, lo-size, hi-size}
-use Rattle.size_laws.specs.SumSizes.{row-each, delta-three, tee-three, taken-size, inner-size}
+use Rattle.size_laws.specs.Sizes.{moebius-size}
+use Rattle.size_laws.specs.SumSizes.{delta-three, tee-three, gains-three, first-pass, second-pass, low-size, high-size, upper-size, lower-size, taken-size, inner-size, gains-block}
 use Rattle.run_laws.specs.DueLaws.{complete-over, ended-units, ended-cut}
 use Rattle.run_laws.specs.RunEnds.{ended-few, ended-complete}
 use Rattle.run_laws.specs.InOrderLaws.{run-in-order, in-order-room}
@@ -41,7 +36,7 @@ module _ (o : Objective) (fit : Fit o) where
   built = record { whole = graph-cost o fit; fixed = start-cost o fit }
 
   pub run-is-sound : RunSound o
-  run-is-sound b = run-sound (start o) b (o .switches) (begin (o .switches) (start o)) (begin-sound (start o) (o .switches) (start-stands o fit .fine))
+  run-is-sound b = run-sound (start o) b (asked o) (begin (asked o) (start o)) (begin-sound (start o) (asked o) (start-stands o fit .fine))
 
   pub size-rule : SizeRule o
   size-rule = run-within o fit
@@ -51,28 +46,34 @@ module _ (o : Objective) (fit : Fit o) where
   units-are = record {
     most = ended-units o;
     cut = ended-cut o;
-    over = complete-over (o .budget) (o .switches) (begin (o .switches) (start o));
+    over = complete-over (o .budget) (asked o) (begin (asked o) (start o));
     few = ended-few o fit;
     enough = ended-complete o fit;
-    waiting = λ b. let r = in-order-room (start o) (run-in-order (start o) b (o .switches) (start-stands o fit .fine)) in (r .queue, r .waiting);
+    waiting = λ b. let r = in-order-room (start o) (run-in-order (start o) b (asked o) (start-stands o fit .fine)) in (r .queue, r .waiting);
     turns = λ b aside s more l m. graph-turns (runOf o b .graph) (run-is-sound b .stands .fine) aside s more l m;
   }
 
 -- ---- of every graph within the size rule
 pub sums-are : (g : Graph) → g .n ≤ 64 → Within g → Sums g
-unfolding negatives positives
 sums-are g few w = record {
   deltas = λ i m d. delta-three g w i d m;
   tees = λ i m d. tee-three g w i d m;
+  gains = λ i m k d. gains-three g w i d .near m k;
+  pair-parts = λ i d. gains-three g w i d .part;
+  pairs = λ i d. gains-three g w i d .pair;
+  first-passes = λ i m d. first-pass g w i d m;
+  second-passes = λ i m d. second-pass g w i d m;
   entries = λ i m d. moebius-size (tee g i) (tee-three g w i d) m;
-  lows = λ i. lo-size (lin g i) (row g i (neighbours g i)) (w .linear i) (row-each g w i (neighbours g i)) [] (lo g i) (row-each g w i []) (short i) (omega arith) (+ℤ-idr (lo g i));
-  highs = λ i. hi-size (lin g i) (row g i (neighbours g i)) (w .linear i) (row-each g w i (neighbours g i)) [] (hi g i) (row-each g w i []) (short i) (omega arith) (+ℤ-idr (hi g i));
+  lows = low-size g w few;
+  highs = high-size g w few;
+  uppers = upper-size g w few;
+  lowers = lower-size g w few;
   taken = taken-size g w;
   inside = inner-size g w;
+  block-gains = λ b m k ho hi. gains-block g w b ho hi .near m k;
+  block-pair-parts = λ b ho hi. gains-block g w b ho hi .part;
+  block-pairs = λ b ho hi. gains-block g w b ho hi .pair;
 }
-  where
-    short : (i : ℕ) → length (row g i (neighbours g i)) ≤ 64
-    short i = omega (arith, length-map (neighbours g i) (edge g i), pigeon (g .n) (neighbours-apart g i))
 
 -- ---- of every graph whose edges are the same both ways round, none with itself
 module _ (g : Graph) (s : Shaped g) where

@@ -9,18 +9,19 @@ use mathlib.Core.Logic.{_≢_}
 use Prim.Native.Nat.{ℕ, _+_, _*_, _<_, _≤_}
 use lib.Dec.{eqb}
 use lib.ListN.{length, getD, take}
-use lib.IntN.{ℤ, pos, _+ℤ_}
+use lib.IntN.{ℤ, pos, _+ℤ_, _-ℤ_}
 use lib.Signed.{_≤ℤ_}
 use Rattle.whole.specs.Parts.{∣_∣}
 use Rattle.whole.specs.Words.{mem}
 use Rattle.whole.specs.Different.{Apart}
+use Rattle.rules.specs.Options.{asked}
 use Rattle.rules.specs.Objective.{Objective}
 use Rattle.rules.specs.Graph.{Graph, lin, edge, neighbours, degree, addConstant, addLinear, addEdge, dropTo, graphOf}
 use Rattle.rules.specs.Fixing.{fix, start}
 use Rattle.rules.specs.Eliminate.{delta, tee, eliminate}
-use Rattle.rules.specs.DegreeThree.{moebius, cubic, eliminate3}
-use Rattle.rules.specs.DominantEdge.{lo, hi, dominates, contract}
-use Rattle.rules.specs.SmallBlock.{members, findBlock, boundary, inner, bestMask, eliminateBlock, grow, component}
+use Rattle.rules.specs.DegreeThree.{pass, moebius, cubic, eliminate3}
+use Rattle.rules.specs.DominantEdge.{lo, hi, upper, lower, dominates, contract}
+use Rattle.rules.specs.SmallBlock.{members, findBlock, boundary, inner, bestMask, blockTable, eliminateBlock, grow, component}
 use Rattle.rules.specs.Run.{State, next, run, begin, ended}
 use Rattle.rules.specs.Size.{Within}
 use Rattle.rules.specs.Outcome.{outcome, units}
@@ -134,7 +135,7 @@ pub record ByBlock (o : Objective) (l e : List ℤ) (b : List ℕ) : Type 0 wher
 -- ---- the size rule, and the units
 -- the run at a budget of b
 abbrev pub runOf : Objective → ℕ → State
-runOf o b = run b (o .switches) (begin (o .switches) (start o)) .state
+runOf o b = run b (asked o) (begin (asked o) (start o)) .state
 
 -- "the reduced constant and each linear weight stay within ±2^40 and each edge within ±2^41 at the end of every reduction"
 abbrev pub SizeRule : Objective → Type 0
@@ -142,24 +143,38 @@ SizeRule o = (b : ℕ) → Within (runOf o b .graph)
 
 -- and each sum that a reduction makes on the way, in a graph of at most 64 decisions within it. 2^40 is 1,099,511,627,776
 pub record Sums (g : Graph) : Type 0 where
-  -- 7·2^40 for a delta and for "T the smaller of delta and 0", 56·2^40 for an entry of the Möbius transform
+  -- 7·2^40 for a delta and for "T the smaller of delta and 0"
   pub deltas : (i m : ℕ) → degree g i ≤ 3 → ∣ delta g i m ∣ ≤ 7696581394432
   pub tees : (i m : ℕ) → degree g i ≤ 3 → ∣ tee g i m ∣ ≤ 7696581394432
+  -- 14·2^40 for "T(1 shifted by k) − T(0)", 28·2^40 for "T(3) − T(1) − T(2) + T(0)"; on the way to it 14·2^40 and 21·2^40
+  pub gains : (i m k : ℕ) → degree g i ≤ 3 → ∣ tee g i m -ℤ tee g i k ∣ ≤ 15393162788864
+  pub pair-parts : (i : ℕ) → degree g i ≤ 3 → ∣ tee g i 3 -ℤ tee g i 1 -ℤ tee g i 2 ∣ ≤ 23089744183296
+  pub pairs : (i : ℕ) → degree g i ≤ 3 → ∣ tee g i 3 -ℤ tee g i 1 -ℤ tee g i 2 +ℤ tee g i 0 ∣ ≤ 30786325577728
+  -- and 14, 28 and 56·2^40 for the three passes of the Möbius transform
+  pub first-passes : (i m : ℕ) → degree g i ≤ 3 → ∣ pass 0 (tee g i) m ∣ ≤ 15393162788864
+  pub second-passes : (i m : ℕ) → degree g i ≤ 3 → ∣ pass 1 (pass 0 (tee g i)) m ∣ ≤ 30786325577728
   pub entries : (i m : ℕ) → degree g i ≤ 3 → ∣ moebius (tee g i) m ∣ ≤ 61572651155456
   -- 257·2^40 for lo and hi
   pub lows : (i : ℕ) → ∣ lo g i ∣ ≤ 282574488338432
   pub highs : (i : ℕ) → ∣ hi g i ∣ ≤ 282574488338432
+  -- 259·2^40 for what is tested: hi − w and lo + w where the edge w is positive, hi + w and lo − w where it is not
+  pub uppers : (i j : ℕ) → ∣ upper g i j ∣ ≤ 284773511593984
+  pub lowers : (i j : ℕ) → ∣ lower g i j ∣ ≤ 284773511593984
   -- 3·2^40 for what a contraction adds to j
   pub taken : (i j : ℕ) → ∣ lin g i +ℤ edge g i j ∣ ≤ 3298534883328
   -- 168·2^40 for the cost of at most 8 members at a filling of at most 2 outside neighbours
   pub inside : (out is : List ℕ) (f m : ℕ) → length out ≤ 2 → length is ≤ 8 → ∣ inner g out f is m ∣ ≤ 184717953466368
+  -- and, of such a block, 336·2^40 for what a neighbour gains, 672·2^40 for what their edge gains; on the way to it 336·2^40 and 504·2^40
+  pub block-gains : (b : List ℕ) (m k : ℕ) → length (boundary g b) ≤ 2 → length b ≤ 8 → ∣ blockTable g b m -ℤ blockTable g b k ∣ ≤ 369435906932736
+  pub block-pair-parts : (b : List ℕ) → length (boundary g b) ≤ 2 → length b ≤ 8 → ∣ blockTable g b 3 -ℤ blockTable g b 1 -ℤ blockTable g b 2 ∣ ≤ 554153860399104
+  pub block-pairs : (b : List ℕ) → length (boundary g b) ≤ 2 → length b ≤ 8 → ∣ blockTable g b 3 -ℤ blockTable g b 1 -ℤ blockTable g b 2 +ℤ blockTable g b 0 ∣ ≤ 738871813865472
 
 -- "One unit per take and one per block eliminated." The run ends, and is exact about them
 pub record Units (o : Objective) : Type 0 where
   pub most : units (ended o .state) ≤ o .budget
   -- "The run is cut short exactly when a take or a found block is due and no unit is left."
   pub cut : ended o .complete ≡ false → units (ended o .state) ≡ o .budget
-  pub over : ended o .complete ≡ nothingDue (next (o .switches) (ended o .state))
+  pub over : ended o .complete ≡ nothingDue (next (asked o) (ended o .state))
   -- whatever the budget, 4,224 units are enough
   pub few : units (ended o .state) ≤ 4224
   pub enough : 4224 ≤ o .budget → ended o .complete ≡ true

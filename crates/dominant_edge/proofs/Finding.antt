@@ -16,13 +16,12 @@ use Rattle.whole.specs.Parts.{∣_∣}
 use Rattle.whole.specs.Ints.{ints, rd}
 use Rattle.whole.specs.Cmp.{lt-ind, below0-abs, above0-abs}
 use Rattle.whole.specs.Words.{isZeroZ, below0, above0}
-use Rattle.whole.specs.Masks.{these, these-end as ended}
+use Rattle.whole.specs.Masks.{these, these-end as ended, turn as taking}
 use Rattle.rules.specs.Graph.{Graph, edge}
 use Rattle.rules.specs.DominantEdge.{nothing, at, negatives, positives, lo, hi, dominates, weak, first}
 use Rattle.whole.specs.Fits.{fit, sum-fits}
-use Rattle.low_degree.proofs.Laws.{read-below}
+use Rattle.low_degree.specs.TableLaws.{read-below}
 use Rattle.dominant_edge.specs.Answer.{verdictOf, testOf}
-use Rattle.dominant_edge.proofs.Taking.{parts}
 
 -- ---- the bounds
 pub above-is : (w : ℤ) → w -ℤ below0 w ≡ above0 w
@@ -35,11 +34,11 @@ edgesTo e i js = map (λ j. getD e (64 * i + j) (pos 0)) js
 module _ (e : List ℤ) (i m : ℕ) where
   pub negatives-turn : m ≢ 0 → m < 2 ^ 64 → negatives (edgesTo e i (these m)) ≡ below0 (getD e (64 * i + trailingZeros 64 m) (pos 0)) +ℤ negatives (edgesTo e i (these (bitAnd m (m - 1))))
   unfolding negatives
-  negatives-turn d h = ap (λ (js : List ℕ). negatives (edgesTo e i js)) (parts m d h)
+  negatives-turn d h = ap (λ (js : List ℕ). negatives (edgesTo e i js)) (taking m d h .parts)
 
   pub positives-turn : m ≢ 0 → m < 2 ^ 64 → positives (edgesTo e i (these m)) ≡ above0 (getD e (64 * i + trailingZeros 64 m) (pos 0)) +ℤ positives (edgesTo e i (these (bitAnd m (m - 1))))
   unfolding positives
-  positives-turn d h = ap (λ (js : List ℕ). positives (edgesTo e i js)) (parts m d h)
+  positives-turn d h = ap (λ (js : List ℕ). positives (edgesTo e i js)) (taking m d h .parts)
 
   pub negatives-end : m ≡ 0 → negatives (edgesTo e i (these m)) ≡ pos 0
   unfolding negatives
@@ -53,7 +52,7 @@ module _ (e : List ℤ) (i m : ℕ) where
 module _ (p : ℕ → Bool) (m : ℕ) where
   first-next : m ≢ 0 → m < 2 ^ 64 → (b : Bool) → p (trailingZeros 64 m) ≡ b → first p (these m) ≡ cond b (at (trailingZeros 64 m)) (first p (these (bitAnd m (m - 1))))
   unfolding first
-  first-next d h b e = ap (first p) (parts m d h) ∙ ap (λ (c : Bool). cond c (at (trailingZeros 64 m)) (first p (these (bitAnd m (m - 1))))) e
+  first-next d h b e = ap (first p) (taking m d h .parts) ∙ ap (λ (c : Bool). cond c (at (trailingZeros 64 m)) (first p (these (bitAnd m (m - 1))))) e
 
   pub first-passes : m ≢ 0 → m < 2 ^ 64 → p (trailingZeros 64 m) ≡ true → first p (these m) ≡ at (trailingZeros 64 m)
   first-passes d h e = first-next d h true e

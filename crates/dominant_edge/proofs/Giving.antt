@@ -18,12 +18,11 @@ use Rattle.whole.specs.Ints.{ints, rd}
 use Rattle.whole.specs.Words.{mem, tab}
 use Rattle.whole.specs.Lists.{tab-at, padded}
 use Rattle.whole.specs.Cells.{cells-other}
-use Rattle.whole.specs.Masks.{these, these-below, these-apart, first-in}
+use Rattle.whole.specs.Masks.{these, these-below, these-apart, first-in, turn as taking}
 use Rattle.whole.specs.Members.{in-tail, apart-new}
 use Rattle.whole.specs.Pigeon.{Apart}
 use Rattle.whole.specs.Fits.{fit, read}
-use Rattle.size_laws.specs.Sizes.{neg-size}
-use Rattle.low_degree.proofs.Laws.{gain-fits}
+use Rattle.size_laws.specs.Sizes.{neg-size, gain-fits}
 use Rattle.rules.specs.Graph.{Graph, lin, edge, neighbours, addConstant, addLinear, addEdge, dropTo}
 use Rattle.rules.specs.Eliminate.{step}
 use Rattle.rules.specs.Record.{hold}
@@ -36,7 +35,6 @@ use Rattle.graph.specs.Shows.{Shows}
 use Rattle.accepted_laws.specs.Small.{Small, small-tab}
 use Rattle.graph.specs.declared.Frame.{Frame}
 use Rattle.dominant_edge.specs.Answer.{Gone, Shown-on}
-use Rattle.dominant_edge.proofs.Taking.{parts, low, left-fits}
 
 -- ---- the two walks over the decision's neighbours
 abbrev pub turned-by : ℕ → ℕ → ℤ → Graph → Graph
@@ -95,7 +93,7 @@ module _ {row e₀ e : List ℤ} {m j rest : ℕ} {ms₀ ms : List ℕ} (k : Kee
   weight = getD row at (pos 0)
 
   pub at-low : at < 64
-  at-low = low rest d (k .fits)
+  at-low = taking rest d (k .fits) .below
 
   pub at-in : mem at (these rest) ≡ true
   at-in = first-in rest d (k .fits)
@@ -105,10 +103,10 @@ module _ {row e₀ e : List ℤ} {m j rest : ℕ} {ms₀ ms : List ℕ} (k : Kee
 
   -- one that is left after it is another, and was left before
   pub still : (t : ℕ) → mem t (these left) ≡ true → mem t (these rest) ≡ true
-  still t q = ap (mem t) (parts rest d (k .fits)) ∙ in-tail t at (these left) q
+  still t q = ap (mem t) (taking rest d (k .fits) .parts) ∙ in-tail t at (these left) q
 
   pub other : (t : ℕ) → mem t (these left) ≡ true → t ≢ at
-  other t q e = true≢false (sym q ∙ ap (λ (x : ℕ). mem x (these left)) e ∙ apart-new (subst (Apart 64) (parts rest d (k .fits)) (these-apart rest)))
+  other t q e = true≢false (sym q ∙ ap (λ (x : ℕ). mem x (these left)) e ∙ apart-new (subst (Apart 64) (taking rest d (k .fits) .parts) (these-apart rest)))
 
   pub weight-small : ∣ weight ∣ ≤ 2199023255552
   weight-small = k .weights .each at
@@ -126,7 +124,7 @@ module _ {row e₀ e : List ℤ} {m j rest : ℕ} {ms₀ ms : List ℕ} (k : Kee
     below = k .below;
     weights = k .weights;
     small = k .small;
-    fits = left-fits rest d (k .fits);
+    fits = taking rest d (k .fits) .smaller;
     among = λ t q. k .among t (still t q);
     alike = λ t q.
         let same = s t (these-below left t q) (other t q) in
@@ -151,7 +149,7 @@ module _ {row e₀ e : List ℤ} {m j rest : ℕ} {ms₀ ms : List ℕ} (k : Kee
       (cons : (t : ℕ) (js : List ℕ) (g : Graph) → walk (t ∷ js) g ≡ walk js (cond (eqb t j) g (give t (edge old i t) g))) (g : Graph) where
     next : (b : Bool) → eqb at j ≡ b → walk (these rest) g ≡ walk (these left) (cond b g (give at (edge old i at) g))
     next b q =
-        ap (λ (js : List ℕ). walk js g) (parts rest d (k .fits))
+        ap (λ (js : List ℕ). walk js g) (taking rest d (k .fits) .parts)
         ∙ cons at (these left) g
         ∙ ap (λ (c : Bool). walk (these left) (cond c g (give at (edge old i at) g))) q
 
@@ -190,7 +188,7 @@ module _ (g : Graph) (i c : ℕ) (row : List ℤ) (r : row ≡ tab (λ j. edge g
   }
 
 -- ---- the whole substitution, from what the code's parts give
-module _ (g : Graph) (i j : ℕ) (d : Frame) (l l₁ e : List ℤ) (h : held d l e ≡ dropTo 3 i g) where
+module _ (g : Graph) (i j : ℕ) (d : Frame) (l l₁ e : List ℤ) (ss : List ℕ) (h : held d l e ss ≡ dropTo 3 i g) where
   abbrev turned : Graph
   turned = turn g i j (neighbours g i) (addLinear j (negℤ (lin g i)) (addConstant (lin g i) (dropTo 3 i g)))
 
@@ -198,19 +196,19 @@ module _ (g : Graph) (i j : ℕ) (d : Frame) (l l₁ e : List ℤ) (h : held d l
   moved = move g i j (neighbours g i) (addLinear j (lin g i +ℤ edge g i j) (dropTo 3 i g))
 
   pub by-turning : (f : Frame) (l₂ e₂ : List ℤ) → positive g i j ≡ true → f ≡ withConstant d (d .constant +ℤ lin g i) → l₁ ≡ set l j (getD l j (pos 0) +ℤ negℤ (lin g i))
-      → Does (turn g i j (neighbours g i)) l₁ e l₂ e₂ → held f l₂ e₂ ≡ contract i j g
+      → Does (turn g i j (neighbours g i)) l₁ e l₂ e₂ → held f l₂ e₂ ss ≡ contract i j g
   unfolding contract addConstant
   by-turning f l₂ e₂ q p r s =
-      s (f .n) (f .constant) (f .states)
+      s (f .n) (f .constant) ss
       ∙ ap (turn g i j (neighbours g i))
-      (ap (λ (x : Frame). held x l₁ e) p ∙ sym (linear-gain (d .n) (d .constant +ℤ lin g i) l e (d .states) (negℤ (lin g i)) l₁ j r) ∙ ap (λ (x : Graph). addLinear j (negℤ (lin g i)) (addConstant (lin g i) x)) h)
+      (ap (λ (x : Frame). held x l₁ e ss) p ∙ sym (linear-gain (d .n) (d .constant +ℤ lin g i) l e ss (negℤ (lin g i)) l₁ j r) ∙ ap (λ (x : Graph). addLinear j (negℤ (lin g i)) (addConstant (lin g i) x)) h)
       ∙ sym (ap (λ (b : Bool). cond b turned moved) q)
 
-  pub by-moving : (e₂ : List ℤ) → positive g i j ≡ false → l₁ ≡ set l j (getD l j (pos 0) +ℤ (lin g i +ℤ edge g i j)) → DoesEdges (move g i j (neighbours g i)) e e₂ → held d l₁ e₂ ≡ contract i j g
+  pub by-moving : (e₂ : List ℤ) → positive g i j ≡ false → l₁ ≡ set l j (getD l j (pos 0) +ℤ (lin g i +ℤ edge g i j)) → DoesEdges (move g i j (neighbours g i)) e e₂ → held d l₁ e₂ ss ≡ contract i j g
   unfolding contract
   by-moving e₂ q r s =
-      s (d .n) (d .constant) l₁ (d .states)
-      ∙ ap (move g i j (neighbours g i)) (sym (linear-gain (d .n) (d .constant) l e (d .states) (lin g i +ℤ edge g i j) l₁ j r) ∙ ap (addLinear j (lin g i +ℤ edge g i j)) h)
+      s (d .n) (d .constant) l₁ ss
+      ∙ ap (move g i j (neighbours g i)) (sym (linear-gain (d .n) (d .constant) l e ss (lin g i +ℤ edge g i j) l₁ j r) ∙ ap (addLinear j (lin g i +ℤ edge g i j)) h)
       ∙ sym (ap (λ (b : Bool). cond b turned moved) q)
 
 pub step-by : (g : Graph) (i j : ℕ) (t : Bool) (r : held-step.Step) → positive g i j ≡ t → r ≡ hold (step i (j ∷ []) (cond t 1 2)) → r ≡ hold (contractStep i j g)

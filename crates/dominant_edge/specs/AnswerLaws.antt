@@ -10,25 +10,17 @@ use Rattle.whole.specs.Members.{in-head, in-tail}
 use Rattle.rules.specs.Graph.{Graph, neighbours}
 use Rattle.rules.specs.DominantEdge.{Found, nothing, at, weak, dominates, first, dominant}
 use Rattle.graph.specs.NearLaws.{mem-inside}
-use Rattle.dominant_edge.specs.Answer.{answerOf, dominantOf}
+use Rattle.dominant_edge.specs.Answer.{answerOf}
 use Rattle.dominant_edge.specs.declared.Dominant.the-variants.{Nothing, Neighbour}
 
 -- the two answers: none, or a neighbour and its flag
-pub answer-none : (g : Graph) (i : ℕ) → Nothing ≡ dominantOf g i → dominant g i ≡ nothing
-unfolding dominantOf
-answer-none g i h = go (dominant g i) h
-  where
-    go : (x : Found) → Nothing ≡ answerOf g i x → x ≡ nothing
-    go nothing e = refl
-    go (at j) e = let z : _≡_ {A = ℕ} 0 1 = cc in absurd (omega arith)
+pub answer-none : (g : Graph) (i : ℕ) (x : Found) → Nothing ≡ answerOf g i x → x ≡ nothing
+answer-none g i nothing e = refl
+answer-none g i (at j) e = let z : _≡_ {A = ℕ} 0 1 = cc in absurd (omega arith)
 
-pub answer-at : (g : Graph) (i j : ℕ) (w : Bool) → Neighbour j w ≡ dominantOf g i → (dominant g i ≡ at j) × (w ≡ weak g i j)
-unfolding dominantOf
-answer-at g i j w h = go (dominant g i) h
-  where
-    go : (x : Found) → Neighbour j w ≡ answerOf g i x → (x ≡ at j) × (w ≡ weak g i j)
-    go nothing e = let z : _≡_ {A = ℕ} 0 1 = cc in absurd (omega arith)
-    go (at k) e = let s : k ≡ j = cc in (rw s, rw (← s) (cc))
+pub answer-at : (g : Graph) (i : ℕ) (x : Found) (j : ℕ) (w : Bool) → Neighbour j w ≡ answerOf g i x → (x ≡ at j) × (w ≡ weak g i j)
+answer-at g i nothing j w e = let z : _≡_ {A = ℕ} 0 1 = cc in absurd (omega arith)
+answer-at g i (at k) j w e = let s : k ≡ j = cc in (rw s, rw (← s) (cc))
 
 -- the neighbour that is found is a decision
 first-among : (p : ℕ → Bool) (js : List ℕ) (j : ℕ) → first p js ≡ at j → mem j js ≡ true

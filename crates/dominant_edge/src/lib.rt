@@ -177,23 +177,24 @@ pub fn contract(
     lin: &mut [i64; 64],
     edges: &mut [i64; 4096],
     masks: &mut [u64; 64],
+    states: &mut [u8; 64],
     f: graph::Frame,
     m: u64,
     i: usize,
     j: usize,
 ) -> low_degree::Reduced
-    requires { ⌜ (i < 64) × (j < f .n) × (f .n ≤ 64) × Within (held f (now lin) (now edges)) × (these m ≡ neighbours (held f (now lin) (now edges)) i) × Shows (f .n) (now edges) (now masks) ⌝ }
-    ensures { λ r. ⌜ (held (r .frame) (now (lin .exit)) (now (edges .exit)) ≡ contracted i j (held f (now (lin .entry)) (now (edges .entry))))
+    requires { ⌜ (i < 64) × (j < f .n) × (f .n ≤ 64) × Within (held f (now lin) (now edges) (now states)) × (these m ≡ neighbours (held f (now lin) (now edges) (now states)) i) × Shows (f .n) (now edges) (now masks) ⌝ }
+    ensures { λ r. ⌜ (held (r .frame) (now (lin .exit)) (now (edges .exit)) (now (states .exit)) ≡ contracted i j (held f (now (lin .entry)) (now (edges .entry)) (now (states .entry))))
         × Shows (f .n) (now (edges .exit)) (now (masks .exit))
-        × (r .step ≡ hold (contractStep i j (held f (now (lin .entry)) (now (edges .entry))))) ⌝ }
+        × (r .step ≡ hold (contractStep i j (held f (now (lin .entry)) (now (edges .entry)) (now (states .entry))))) ⌝ }
 {
     let n = f.n;
     let a = lin[i];
     let w = edges[64 * i + j];
     let row = graph::row_of(edges, i, n);
-    let dropped = graph::drop_to(lin, edges, masks, f, 3, i);
+    graph::drop_to(lin, edges, masks, states, 3, i);
     if w > 0 {
-        let left = graph::add_constant(dropped, a);
+        let left = graph::add_constant(f, a);
         graph::add_linear(lin, j, -a);
         turn_edges(lin, edges, masks, &row, m, j);
         let step = step_over(i, j, 1);
@@ -206,7 +207,7 @@ pub fn contract(
     move_edges(edges, masks, &row, m, j);
     let step = step_over(i, j, 2);
     low_degree::Reduced {
-        frame: dropped,
+        frame: f,
         step: step,
     }
 }

@@ -6,13 +6,12 @@ use native.Mathlib.Omega.{arith}
 use lib.ListN.{length, drop, replicate, length-replicate}
 use lib.IntN.{ℤ, pos}
 use Rattle.whole.specs.Lists.{drop-replicate}
-use Rattle.rules.specs.Graph.{Graph, addTerms, bare, graphOf, noEdges}
+use Rattle.rules.specs.Graph.{Graph, graph, addTerms, bare, graphOf, noEdges}
 use Rattle.rules.specs.Fixing.{fixAll, start}
 use Rattle.rules.specs.Objective.{objective, weightOf}
 use Rattle.accepted_laws.specs.Mass.{weight-append, weight-zeros}
 use Rattle.accepted_laws.specs.Accept.{Fit}
-use Rattle.graph.specs.Held.{held, noLinear, Below, Does}
-use Rattle.graph.specs.declared.Frame.{Frame}
+use Rattle.graph.specs.Held.{noLinear, Below, Does}
 
 pub blank-length : (l : List ℤ) → l ≡ noLinear → length l ≡ 64
 unfolding noLinear
@@ -35,11 +34,11 @@ module _ (n : ℕ) (w : List ℤ) (is js : List ℕ) (ws : List ℤ) (fs : List 
   pub below-second : Below 64 js
   below-second = record { each = λ k h. omega (arith, fit .secondBelow k h, fit .small) }
 
-  pub begun : (f : Frame) (l e : List ℤ) → f .n ≡ n → f .constant ≡ pos 0 → f .states ≡ replicate n 2 ++ replicate (64 - n) 0 → Does (addTerms is js ws) l₁ e₀ l e
-      → held f l e ≡ graphOf (objective n w is js ws fs 0 0)
+  pub begun : (l e : List ℤ) (ss : List ℕ) → ss ≡ replicate n 2 ++ replicate (64 - n) 0 → Does (addTerms is js ws) l₁ e₀ l e
+      → graph n (pos 0) l e ss ≡ graphOf (objective n w is js ws fs 0 0)
   unfolding graphOf bare
-  begun f l e p q r d = rw (p, q, r) (d n (pos 0) (replicate n 2 ++ replicate (64 - n) 0) ∙ rw (loaded, ze))
+  begun l e ss r d = rw r (d n (pos 0) (replicate n 2 ++ replicate (64 - n) 0) ∙ rw (loaded, ze))
 
-  pub started : (f : Frame) (l e : List ℤ) (g : Graph) (sw b : ℕ) → held f l e ≡ graphOf (objective n w is js ws fs 0 0) → g ≡ fixAll 0 fs (held f l e) → g ≡ start (objective n w is js ws fs sw b)
+  pub started : (f g : Graph) (sw b : ℕ) → f ≡ graphOf (objective n w is js ws fs 0 0) → g ≡ fixAll 0 fs f → g ≡ start (objective n w is js ws fs sw b)
   unfolding start graphOf bare
-  started f l e g sw b p q = q ∙ ap (fixAll 0 fs) p
+  started f g sw b p q = q ∙ ap (fixAll 0 fs) p

@@ -1,4 +1,4 @@
--- The graph that the code holds: a frame by value, the linear weights and the edges in arrays.
+-- The graph that the code holds: a frame by value; the linear weights, the edges and the states in arrays.
 -- Assumes nothing.
 use mathlib.Core.Path.{_≡_}
 use mathlib.Core.List.{List}
@@ -11,15 +11,19 @@ use Rattle.rules.specs.Fixing.{spread}
 use Rattle.graph.specs.declared.Frame.{Frame}
 use mathlib.Core.Bool.{not}
 
-abbrev pub held : Frame → List ℤ → List ℤ → Graph
-held f l e = graph (f .n) (f .constant) l e (f .states)
+abbrev pub held : Frame → List ℤ → List ℤ → List ℕ → Graph
+held f l e ss = graph (f .n) (f .constant) l e ss
 
 abbrev pub withConstant : Frame → ℤ → Frame
-withConstant f c = record { n = f .n; constant = c; states = f .states }
+withConstant f c = record { n = f .n; constant = c }
 
 -- the linear weights before anything is in them. Shut, so that they are not written out
 unfoldable pub noLinear : List ℤ
 noLinear = replicate 64 (pos 0)
+
+-- and the states
+unfoldable pub noStates : List ℕ
+noStates = replicate 64 0
 
 -- every element is below b
 pub record Below (b : ℕ) (l : List ℕ) : Type 0 where

@@ -1,7 +1,7 @@
 -- Laws of the masks that show the edges: the list of a decision's neighbours, no edge at all, an edge set both ways round.
 -- Assumes nothing.
 use mathlib.Core.Path.{_≡_, refl, sym, ap, _∙_, subst}
-use mathlib.Core.Bool.{Bool, cond, not, _&&_}
+use mathlib.Core.Bool.{Bool, false, cond, not, _&&_}
 use mathlib.Core.List.{List}
 use mathlib.Core.Logic.{_≢_}
 use Prim.Native.Nat.{ℕ, _+_, _*_, _-_, _^_, _<_, _≤_}
@@ -32,13 +32,18 @@ abbrev pub isEdge : ℤ → Bool
 isEdge z = not (isZeroZ z)
 
 -- ---- the neighbours
+-- a mask of those that pass, of which none is past n, lists them
+pub these-upto : (p : ℕ → Bool) (m n : ℕ) → n ≤ 64 → ((k : ℕ) → k < 64 → bit m k ≡ p k) → ((k : ℕ) → k < 64 → n ≤ k → p k ≡ false) → these m ≡ those p (upto n)
+unfolding these
+these-upto p m n h b z =
+    those-ext (λ k. bit m k) p (upto 64) (λ k t. b k (upto-in k 64 t))
+    ∙ ap (λ (k : ℕ). those p (upto k)) (sym (add-sub-of-le h))
+    ∙ those-upto p n (64 - n) (λ k t u. z k (omega arith) t)
+
 pub shown : (n : ℕ) (e : List ℤ) (m : List ℕ) → Shows n e m → n ≤ 64 → (c : ℤ) (l : List ℤ) (ss : List ℕ) (i : ℕ) → i < 64
     → these (getD m i 0) ≡ neighbours (graph n c l e ss) i
-unfolding these neighbours
-shown n e m s h c l ss i hi =
-    those-ext (λ j. bit (getD m i 0) j) (there e i) (upto 64) (λ k t. s .bits i k hi (upto-in k 64 t))
-    ∙ ap (λ (k : ℕ). those (there e i) (upto k)) (sym (add-sub-of-le h))
-    ∙ those-upto (there e i) n (64 - n) (λ k t u. ap isEdge (s .none i k hi (omega arith) t))
+unfolding neighbours
+shown n e m s h c l ss i hi = these-upto (there e i) (getD m i 0) n h (λ k b. s .bits i k hi b) (λ k b t. ap isEdge (s .none i k hi b t))
 
 -- ---- no edge at all
 pub shows-none : (n : ℕ) (e : List ℤ) (m : List ℕ) → e ≡ noEdges → m ≡ noMasks → Shows n e m

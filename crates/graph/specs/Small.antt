@@ -7,7 +7,7 @@ use native.Mathlib.Omega.{arith}
 use lib.ListN.{getD}
 use lib.IntN.{ℤ, pos}
 use Rattle.whole.specs.Parts.{∣_∣}
-use Rattle.rules.specs.Graph.{Graph, dropTo, neighbours}
+use Rattle.rules.specs.Graph.{Graph, graph, dropTo, neighbours}
 use Rattle.rules.specs.Size.{Within}
 use Rattle.accepted_laws.specs.Small.{Small, small-set, small-clear, small-map}
 use Rattle.graph.specs.Near.{three, nearOf}
@@ -24,6 +24,10 @@ small-three {b} {ws} s = record { each = at }
 pub small-near : {b : ℕ} (g : Graph) (i : ℕ) → Small b (g .edges) → Small b (nearOf g i .weights)
 unfolding nearOf
 small-near g i s = small-three (small-map (λ j. getD (g .edges) (64 * i + j) (pos 0)) (neighbours g i) (λ j. s .each (64 * i + j)))
+
+-- the size rule does not look at the states
+pub within-any : {g : Graph} (ss : List ℕ) → Within g → Within (graph (g .n) (g .constant) (g .linear) (g .edges) ss)
+within-any ss w = record { constant = w .constant; linear = w .linear; edges = w .edges }
 
 -- the size rule's bounds hold of what is left when a decision is dropped
 module _ (s i : ℕ) (g d : Graph) (h : d ≡ dropTo s i g) (w : Within g) where

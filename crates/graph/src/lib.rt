@@ -10,20 +10,19 @@ ghost use mir.Syntax.{w64};
 ghost use mir.Val.{SFits};
 ghost use Rattle.whole.specs.Words.{tab, bit, isZeroZ};
 ghost use Rattle.whole.specs.Masks.{these};
-ghost use Rattle.rules.specs.Graph.{addTerm, addTerms, clear as cleared, dropTo, noEdges};
+ghost use Rattle.rules.specs.Graph.{graph, addTerm, addTerms, clear as cleared, dropTo, noEdges};
 ghost use Rattle.rules.specs.Fixing.{fix as fixing, fixAll, start as started};
 ghost use Rattle.accepted_laws.specs.Accept.{Fit};
 ghost use Rattle.rules.specs.Objective.{objective, weightOf};
 ghost use Rattle.accepted_laws.specs.Mass.{mass};
-ghost use Rattle.graph.specs.Held.{held, withConstant, noLinear, Below, Does, Spreads};
+ghost use Rattle.graph.specs.Held.{held, withConstant, noLinear, noStates, Below, Does, Spreads};
 ghost use Rattle.graph.specs.Near.{Nears};
 ghost use Rattle.graph.specs.Shows.{Shows, noMasks};
 
-// What a graph has besides its weights.
+// What a graph has besides its lists.
 pub struct Frame {
     pub n: usize,
     pub constant: i64,
-    pub states: [u8; 64],
 }
 
 // How many neighbours a decision has, and of the first three, ascending, which they are and its edges to them; zeros where there are fewer.
@@ -53,7 +52,7 @@ pub fn add_linear(lin: &mut [i64; 64], k: usize, v: i64)
 }
 
 // The mask of i. (A call's result is known to fit its type; an element that is read is not.)
-fn mask_at(masks: &[u64; 64], i: usize) -> u64
+pub fn mask_at(masks: &[u64; 64], i: usize) -> u64
     requires { ⌜ i < 64 ⌝ }
     ensures { λ r. ⌜ r ≡ getD (now (masks .entry)) i 0 ⌝ }
 {
@@ -69,7 +68,7 @@ pub fn marked(m: u64, j: usize, w: i64) -> u64
     if w != 0 {
         return m | one;
     }
-    m ^ (m & one)
+    whole::without(m, one)
 }
 
 // An edge gains v, and the masks of the two show whether it is one.
@@ -203,22 +202,16 @@ pub fn add_terms(
     }
 }
 
-// No constant yet, and the first n decisions active.
-pub fn opening(n: usize) -> Frame
-    requires { ⌜ n ≤ 64 ⌝ }
-    ensures { λ r. ⌜ (r .n ≡ n) × (r .constant ≡ pos 0) × (r .states ≡ replicate n 2 ++ replicate (64 - n) 0) ⌝ }
+// The first n decisions are active.
+pub fn opening(states: &mut [u8; 64], n: usize)
+    requires { ⌜ (n ≤ 64) × (now states ≡ noStates) ⌝ }
+    ensures { λ _. ⌜ now (states .exit) ≡ replicate n 2 ++ replicate (64 - n) 0 ⌝ }
 {
-    let mut f = Frame {
-        n: n,
-        constant: 0,
-        states: [0; 64],
-    };
     let mut k: usize = 0;
     while k < n {
-        f.states[k] = 2;
+        states[k] = 2;
         k = k + 1;
     }
-    f
 }
 
 // ---- fixing
@@ -259,19 +252,18 @@ pub fn drop_to(
     lin: &mut [i64; 64],
     edges: &mut [i64; 4096],
     masks: &mut [u64; 64],
-    f: Frame,
+    states: &mut [u8; 64],
     s: u8,
     i: usize,
-) -> Frame
-    requires { ⌜ (i < 64) × (f .n ≤ 64) × Shows (f .n) (now edges) (now masks) ⌝ }
-    ensures { λ r. ⌜ (held r (now (lin .exit)) (now (edges .exit)) ≡ dropTo s i (held f (now (lin .entry)) (now (edges .entry))))
-        × Shows (f .n) (now (edges .exit)) (now (masks .exit)) ⌝ }
+)
+    requires { ⌜ i < 64 ⌝ }
+    ensures { λ _. ⌜ ((n : ℕ) (c : ℤ) → n ≤ 64 → Shows n (now (edges .entry)) (now (masks .entry))
+        → (graph n c (now (lin .exit)) (now (edges .exit)) (now (states .exit)) ≡ dropTo s i (graph n c (now (lin .entry)) (now (edges .entry)) (now (states .entry))))
+        × Shows n (now (edges .exit)) (now (masks .exit))) ⌝ }
 {
     lin[i] = 0;
     wipe(edges, masks, i);
-    let mut g = f;
-    g.states[i] = s;
-    g
+    states[i] = s;
 }
 
 // i is fixed to v.
@@ -279,24 +271,26 @@ pub fn fix(
     lin: &mut [i64; 64],
     edges: &mut [i64; 4096],
     masks: &mut [u64; 64],
+    states: &mut [u8; 64],
     f: Frame,
     i: usize,
     v: u8,
 ) -> Frame
-    requires { ⌜ (i < 64) × (v < 2) × (f .n ≤ 64) × (mass (held f (now lin) (now edges)) ≤ 2199023255552) × Shows (f .n) (now edges) (now masks) ⌝ }
-    ensures { λ r. ⌜ (held r (now (lin .exit)) (now (edges .exit)) ≡ fixing i v (held f (now (lin .entry)) (now (edges .entry))))
+    requires { ⌜ (i < 64) × (v < 2) × (f .n ≤ 64) × (mass (held f (now lin) (now edges) (now states)) ≤ 2199023255552) × Shows (f .n) (now edges) (now masks) ⌝ }
+    ensures { λ r. ⌜ (held r (now (lin .exit)) (now (edges .exit)) (now (states .exit)) ≡ fixing i v (held f (now (lin .entry)) (now (edges .entry)) (now (states .entry))))
         × (r .n ≡ f .n)
-        × (mass (held r (now (lin .exit)) (now (edges .exit))) ≤ mass (held f (now (lin .entry)) (now (edges .entry))))
+        × (mass (held r (now (lin .exit)) (now (edges .exit)) (now (states .exit))) ≤ mass (held f (now (lin .entry)) (now (edges .entry)) (now (states .entry))))
         × Shows (f .n) (now (edges .exit)) (now (masks .exit)) ⌝ }
 {
     let n = f.n;
     if v == 0 {
-        return drop_to(lin, edges, masks, f, 0, i);
+        drop_to(lin, edges, masks, states, 0, i);
+        return f;
     }
     let row = row_of(edges, i, n);
     let a = lin[i];
-    let dropped = drop_to(lin, edges, masks, f, 1, i);
-    let g = add_constant(dropped, a);
+    drop_to(lin, edges, masks, states, 1, i);
+    let g = add_constant(f, a);
     spread(lin, &row, n);
     g
 }
@@ -306,12 +300,13 @@ pub fn fix_all(
     lin: &mut [i64; 64],
     edges: &mut [i64; 4096],
     masks: &mut [u64; 64],
+    states: &mut [u8; 64],
     start: Frame,
     fixings: &[u8],
 ) -> Frame
-    requires { ⌜ (start .n ≤ 64) × (length (now fixings) ≤ 64) × (mass (held start (now lin) (now edges)) ≤ 2199023255552) × Shows (start .n) (now edges) (now masks) ⌝ }
-    ensures { λ r. ⌜ (held r (now (lin .exit)) (now (edges .exit)) ≡ fixAll 0 (now (fixings .entry)) (held start (now (lin .entry)) (now (edges .entry))))
-        × (mass (held r (now (lin .exit)) (now (edges .exit))) ≤ 2199023255552) × (r .n ≡ start .n)
+    requires { ⌜ (start .n ≤ 64) × (length (now fixings) ≤ 64) × (mass (held start (now lin) (now edges) (now states)) ≤ 2199023255552) × Shows (start .n) (now edges) (now masks) ⌝ }
+    ensures { λ r. ⌜ (held r (now (lin .exit)) (now (edges .exit)) (now (states .exit)) ≡ fixAll 0 (now (fixings .entry)) (held start (now (lin .entry)) (now (edges .entry)) (now (states .entry))))
+        × (mass (held r (now (lin .exit)) (now (edges .exit)) (now (states .exit))) ≤ 2199023255552) × (r .n ≡ start .n)
         × Shows (start .n) (now (edges .exit)) (now (masks .exit)) ⌝ }
 {
     let mut f = start;
@@ -319,7 +314,7 @@ pub fn fix_all(
     while i < fixings.len() {
         let v = fixings[i];
         if v < 2 {
-            let g = fix(lin, edges, masks, f, i, v);
+            let g = fix(lin, edges, masks, states, f, i, v);
             f = g;
         }
         i = i + 1;
@@ -332,6 +327,7 @@ pub fn begin(
     lin: &mut [i64; 64],
     edges: &mut [i64; 4096],
     masks: &mut [u64; 64],
+    states: &mut [u8; 64],
     n: usize,
     weights: &[i64],
     firsts: &[u32],
@@ -339,13 +335,14 @@ pub fn begin(
     term_weights: &[i64],
     fixings: &[u8],
 ) -> Frame
-    requires { ⌜ (now lin ≡ noLinear) × (now edges ≡ noEdges) × (now masks ≡ noMasks) × Fit (objective n (now weights) (now firsts) (now seconds) (now «term_weights») (now fixings) 0 0) ⌝ }
-    ensures { λ r. ⌜ ((switches budget : ℕ) → held r (now (lin .exit)) (now (edges .exit)) ≡ started (objective n (now (weights .entry)) (now (firsts .entry)) (now (seconds .entry)) (now («term_weights» .entry)) (now (fixings .entry)) switches budget))
-        × (mass (held r (now (lin .exit)) (now (edges .exit))) ≤ 2199023255552) × (r .n ≡ n)
+    requires { ⌜ (now lin ≡ noLinear) × (now edges ≡ noEdges) × (now masks ≡ noMasks) × (now states ≡ noStates) × Fit (objective n (now weights) (now firsts) (now seconds) (now «term_weights») (now fixings) 0 0) ⌝ }
+    ensures { λ r. ⌜ ((switches budget : ℕ) → held r (now (lin .exit)) (now (edges .exit)) (now (states .exit)) ≡ started (objective n (now (weights .entry)) (now (firsts .entry)) (now (seconds .entry)) (now («term_weights» .entry)) (now (fixings .entry)) switches budget))
+        × (mass (held r (now (lin .exit)) (now (edges .exit)) (now (states .exit))) ≤ 2199023255552) × (r .n ≡ n)
         × Shows n (now (edges .exit)) (now (masks .exit)) ⌝ }
 {
     load(lin, weights);
     add_terms(lin, edges, masks, firsts, seconds, term_weights);
-    let f = opening(n);
-    fix_all(lin, edges, masks, f, fixings)
+    opening(states, n);
+    let none = Frame { n: n, constant: 0 };
+    fix_all(lin, edges, masks, states, none, fixings)
 }

@@ -1,6 +1,6 @@
 -- What the code's parts make: the table of masks, the choices, and the update of the graph.
 use mathlib.Core.Path.{_≡_, refl, sym, ap, ap₂, _∙_, subst}
-use mathlib.Core.Bool.{Bool, true, false, cond}
+use mathlib.Core.Bool.{Bool, true, false}
 use mathlib.Core.List.{List, [], _∷_}
 use mathlib.Core.Logic.{_≢_}
 use Prim.Native.Nat.{ℕ, zero, suc, _+_, _*_, _-_, _^_, _<_, _≤_}
@@ -13,10 +13,9 @@ use lib.IntN.{ℤ, pos, _+ℤ_, _-ℤ_}
 use mir.Syntax.{w64}
 use mir.Val.{SFits, toZ, ofZ}
 use Rattle.whole.specs.Parts.{∣_∣}
-use Rattle.whole.specs.Ints.{ints, rd}
+use Rattle.whole.specs.Ints.{ints}
 use Rattle.whole.specs.Fits.{fit, read}
-use Rattle.whole.specs.Words.{tab, chosen, bitsFrom, below0}
-use Rattle.whole.specs.Cmp.{lt-ind}
+use Rattle.whole.specs.Words.{tab, chosen, bitsFrom}
 use Rattle.whole.specs.Lists.{tab-at, cons-same}
 use Rattle.whole.specs.Counts.{one-left}
 use Rattle.whole.specs.Members.{apart-head, apart-tail, apart-new, apart-wider, out-cons}
@@ -29,17 +28,11 @@ use Rattle.graph.specs.NearLaws.{near-count, near-list}
 use Rattle.graph.specs.declared.Near.{Near}
 use Rattle.graph.specs.Held.{held, withConstant}
 use Rattle.accepted_laws.specs.Small.{Small}
-use Rattle.size_laws.specs.Sizes.{delta-size, gain-size}
+use Rattle.size_laws.specs.Sizes.{delta-size, table-size}
 use Rattle.graph.specs.declared.Frame.{Frame}
 use Rattle.low_degree.specs.Table.{deltasOf}
 use Rattle.low_degree.specs.AbsorbLaws.{pair-whole, absorb-same}
 use Rattle.graph.specs.Small.{small-three}
-
--- the smaller of a weight and 0, kept and read back
-pub read-below : (z r : ℤ) → SFits w64 z → r ≡ below0 (toZ w64 (ofZ w64 z)) → toZ w64 (ofZ w64 r) ≡ below0 z
-read-below z r f e =
-    let k : r ≡ below0 z = e ∙ ap (λ (x : ℤ). below0 x) (rd f) in
-    rw k (lt-ind z (pos 0) (λ t. toZ w64 (ofZ w64 (cond t z (pos 0))) ≡ cond t z (pos 0)) (λ h. rd f) (λ h. refl))
 
 -- ---- the table
 module _ (a : ℤ) (ws : List ℤ) where
@@ -149,29 +142,23 @@ pub record Gains (t : List ℤ) : Type 0 where
 
 pub gains : (t : List ℤ) → Small (2 ^ 50) t → Gains t
 gains t s =
-    let h0 = s .each 0 in
-    let h1 = s .each 1 in
-    let h2 = s .each 2 in
-    let h3 = s .each 3 in
+    let t′ : ℕ → ℤ = λ m. getD t m (pos 0) in
+    let sums = table-size t′ (s .each) in
     record {
-      r0 = read (getD t 0 (pos 0)) (omega arith);
-      r1 = read (getD t 1 (pos 0)) (omega arith);
-      r2 = read (getD t 2 (pos 0)) (omega arith);
-      r3 = read (getD t 3 (pos 0)) (omega arith);
-      b0 = h0;
-      b1 = simp ints (omega arith);
-      b2 = simp ints (omega arith);
-      b3 = simp ints (omega arith);
-      d1 = simp ints (omega arith);
-      d2 = simp ints (omega arith);
-      e1 = simp ints (omega arith);
-      e2 = simp ints (omega arith);
-      e3 = simp ints (omega arith);
+      r0 = read (t′ 0) (omega (arith, s .each 0));
+      r1 = read (t′ 1) (omega (arith, s .each 1));
+      r2 = read (t′ 2) (omega (arith, s .each 2));
+      r3 = read (t′ 3) (omega (arith, s .each 3));
+      b0 = s .each 0;
+      b1 = omega (arith, sums .near 1 0);
+      b2 = omega (arith, sums .near 2 0);
+      b3 = omega (arith, sums .pair);
+      d1 = fit (t′ 1 -ℤ t′ 0) (omega (arith, sums .near 1 0));
+      d2 = fit (t′ 2 -ℤ t′ 0) (omega (arith, sums .near 2 0));
+      e1 = fit (t′ 3 -ℤ t′ 1) (omega (arith, sums .near 3 1));
+      e2 = fit (t′ 3 -ℤ t′ 1 -ℤ t′ 2) (omega (arith, sums .part));
+      e3 = fit (t′ 3 -ℤ t′ 1 -ℤ t′ 2 +ℤ t′ 0) (omega (arith, sums .pair));
     }
-
--- a place that has gained nothing yet gains: before is what the size rule bounds
-pub gain-fits : {b c : ℕ} (before now : List ℤ) (k : ℕ) (v : ℤ) → ∣ getD before k (pos 0) ∣ ≤ b → getD now k (pos 0) ≡ getD before k (pos 0) → ∣ v ∣ ≤ c → b + c ≤ 2 ^ 60 → SFits w64 (getD now k (pos 0) +ℤ v)
-gain-fits before now k v s e h i = fit (getD now k (pos 0) +ℤ v) (omega (arith, gain-size before now k v s e h))
 
 -- the neighbours that are there are decisions, and the second is another than the first
 pub first-low : (count j k : ℕ) → Apart 64 (take count (j ∷ k ∷ [])) → count ≢ 0 → j < 64
@@ -183,23 +170,23 @@ second-other count j k e a =
     let both : Apart 64 (j ∷ k ∷ []) = subst (λ (c : ℕ). Apart 64 (take c (j ∷ k ∷ []))) e a in
     (apart-head (apart-tail both), λ q. out-cons j k [] (apart-new both) .0 (sym q))
 
-module _ (t : ℕ → ℤ) (f g : Frame) (l e : List ℤ) (j k : ℕ) (h : g ≡ withConstant f (f .constant +ℤ t 0)) where
+module _ (t : ℕ → ℤ) (f g : Frame) (l e : List ℤ) (ss : List ℕ) (j k : ℕ) (h : g ≡ withConstant f (f .constant +ℤ t 0)) where
   abbrev near : ℕ → List ℕ
   near count = take count (j ∷ k ∷ [])
 
-  pub absorb-none : (count : ℕ) → count ≡ 0 → held g l e ≡ absorb t (near count) (held f l e)
+  pub absorb-none : (count : ℕ) → count ≡ 0 → held g l e ss ≡ absorb t (near count) (held f l e ss)
   unfolding absorb addConstant
-  absorb-none count z = rw z (ap (λ (x : Frame). held x l e) h)
+  absorb-none count z = rw z (ap (λ (x : Frame). held x l e ss) h)
 
-  pub absorb-one : (count : ℕ) (l₁ : List ℤ) → count ≡ 1 → l₁ ≡ set l j (getD l j (pos 0) +ℤ (t 1 -ℤ t 0)) → held g l₁ e ≡ absorb t (near count) (held f l e)
+  pub absorb-one : (count : ℕ) (l₁ : List ℤ) → count ≡ 1 → l₁ ≡ set l j (getD l j (pos 0) +ℤ (t 1 -ℤ t 0)) → held g l₁ e ss ≡ absorb t (near count) (held f l e ss)
   unfolding absorb addConstant addLinear
-  absorb-one count l₁ z p = rw (z, p) (ap (λ (x : Frame). held x (set l j (getD l j (pos 0) +ℤ (t 1 -ℤ t 0))) e) h)
+  absorb-one count l₁ z p = rw (z, p) (ap (λ (x : Frame). held x (set l j (getD l j (pos 0) +ℤ (t 1 -ℤ t 0))) e ss) h)
 
   pub absorb-two : (count : ℕ) (l₁ l₂ e₁ : List ℤ) → count ≡ 2 → l₁ ≡ set l j (getD l j (pos 0) +ℤ (t 1 -ℤ t 0)) → l₂ ≡ set l₁ k (getD l₁ k (pos 0) +ℤ (t 2 -ℤ t 0))
       → e₁ ≡ set (set e (64 * j + k) (getD e (64 * j + k) (pos 0) +ℤ (t 3 -ℤ t 1 -ℤ t 2 +ℤ t 0))) (64 * k + j) (getD e (64 * k + j) (pos 0) +ℤ (t 3 -ℤ t 1 -ℤ t 2 +ℤ t 0))
-      → held g l₂ e₁ ≡ absorb t (near count) (held f l e)
+      → held g l₂ e₁ ss ≡ absorb t (near count) (held f l e ss)
   unfolding absorb addConstant addLinear addEdge
-  absorb-two count l₁ l₂ e₁ z p q r = rw z (ap (λ (x : Frame). held x l₂ e₁) h ∙ rw (r, q, p))
+  absorb-two count l₁ l₂ e₁ z p q r = rw z (ap (λ (x : Frame). held x l₂ e₁ ss) h ∙ rw (r, q, p))
 
 module _ (g : Graph) (i : ℕ) (near : Near) (is : near ≡ nearOf g i) (few : near .count ≤ 2) where
   short : length (neighbours g i) ≤ 2

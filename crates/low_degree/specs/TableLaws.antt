@@ -1,7 +1,7 @@
 -- The table of masks is the rules' own, for every degree up to three.
 -- Assumes nothing.
 use mathlib.Core.Path.{_≡_, refl, ap, ap₂, _∙_, sym, subst}
-use mathlib.Core.Bool.{Bool}
+use mathlib.Core.Bool.{Bool, cond}
 use mathlib.Core.List.{List, [], _∷_}
 use Prim.Native.Nat.{ℕ, zero, suc, _+_, _*_, _/_, _^_, _<_, _≤_}
 use native.Mathlib.Omega.{arith}
@@ -10,9 +10,11 @@ use lib.Pow.{pow-mono}
 use lib.IntN.{ℤ, pos, _+ℤ_}
 use lib.Signed.{ltZ}
 use mir.Syntax.{w64}
-use mir.Val.{toZ, ofZ}
+use mir.Val.{SFits, toZ, ofZ}
 use Rattle.whole.specs.Parts.{∣_∣}
+use Rattle.whole.specs.Ints.{rd}
 use Rattle.whole.specs.Fits.{read}
+use Rattle.whole.specs.Cmp.{lt-ind}
 use Rattle.whole.specs.Tests.{either-way}
 use Rattle.whole.specs.Words.{tab, odd, chosen, bitsFrom, oneIf, below0}
 use Rattle.whole.specs.Lists.{tab-at, tab-same}
@@ -27,6 +29,12 @@ use Rattle.graph.specs.Small.{small-near}
 use Rattle.graph.specs.declared.Near.{Near}
 use Rattle.low_degree.specs.declared.Table.{Table}
 use Rattle.low_degree.specs.Table.{deltasOf, teesOf, choicesOf, stepFrom, Tables}
+
+-- the smaller of a weight and 0, kept and read back
+pub read-below : (z r : ℤ) → SFits w64 z → r ≡ below0 (toZ w64 (ofZ w64 z)) → toZ w64 (ofZ w64 r) ≡ below0 z
+read-below z r f e =
+    let k : r ≡ below0 z = e ∙ ap (λ (x : ℤ). below0 x) (rd f) in
+    rw k (lt-ind z (pos 0) (λ t. toZ w64 (ofZ w64 (cond t z (pos 0))) ≡ cond t z (pos 0)) (λ h. rd f) (λ h. refl))
 
 -- ---- over the degree: a missing neighbour's weight is 0
 chosen-three : (ws : List ℤ) (m : ℕ) → length ws ≤ 3 → chosen (three ws (pos 0)) m ≡ chosen ws m

@@ -1,6 +1,6 @@
 // Eliminating a decision that has at most two neighbours.
 ghost use mathlib.Core.Path.{_≡_};
-ghost use mathlib.Core.List.{[], _∷_};
+ghost use mathlib.Core.List.{List, [], _∷_};
 ghost use Prim.Native.Nat.{ℕ, _<_, _≤_, _^_};
 ghost use lib.ListN.{getD, take};
 ghost use lib.IntN.{pos};
@@ -148,8 +148,8 @@ pub fn absorb(
     j: usize,
     k: usize,
 ) -> graph::Frame
-    requires { ⌜ Apart 64 (take count (j ∷ k ∷ [])) × (count ≤ 2) × Within (held f (now lin) (now edges)) × Small (2 ^ 50) t ⌝ }
-    ensures { λ r. ⌜ (held r (now (lin .exit)) (now (edges .exit)) ≡ absorbed (λ m. getD t m (pos 0)) (take count (j ∷ k ∷ [])) (held f (now (lin .entry)) (now (edges .entry))))
+    requires { ⌜ Apart 64 (take count (j ∷ k ∷ [])) × (count ≤ 2) × Within (held f (now lin) (now edges) []) × Small (2 ^ 50) t ⌝ }
+    ensures { λ r. ⌜ ((ss : List ℕ) → held r (now (lin .exit)) (now (edges .exit)) ss ≡ absorbed (λ m. getD t m (pos 0)) (take count (j ∷ k ∷ [])) (held f (now (lin .entry)) (now (edges .entry)) ss))
         × ((n : ℕ) → (count ≡ 2 → (j < n) × (k < n)) → Shows n (now (edges .entry)) (now (masks .entry)) → Shows n (now (edges .exit)) (now (masks .exit))) ⌝ }
 {
     let t0 = t[0];
@@ -174,26 +174,27 @@ pub fn eliminate(
     lin: &mut [i64; 64],
     edges: &mut [i64; 4096],
     masks: &mut [u64; 64],
+    states: &mut [u8; 64],
     f: graph::Frame,
     near: graph::Near,
     i: usize,
 ) -> Reduced
-    requires { ⌜ (i < 64) × (f .n ≤ 64) × Within (held f (now lin) (now edges)) × (near ≡ nearOf (held f (now lin) (now edges)) i) × (near .count ≤ 2) × Shows (f .n) (now edges) (now masks) ⌝ }
-    ensures { λ r. ⌜ (held (r .frame) (now (lin .exit)) (now (edges .exit)) ≡ eliminated i (held f (now (lin .entry)) (now (edges .entry))))
+    requires { ⌜ (i < 64) × (f .n ≤ 64) × Within (held f (now lin) (now edges) (now states)) × (near ≡ nearOf (held f (now lin) (now edges) (now states)) i) × (near .count ≤ 2) × Shows (f .n) (now edges) (now masks) ⌝ }
+    ensures { λ r. ⌜ (held (r .frame) (now (lin .exit)) (now (edges .exit)) (now (states .exit)) ≡ eliminated i (held f (now (lin .entry)) (now (edges .entry)) (now (states .entry))))
         × Shows (f .n) (now (edges .exit)) (now (masks .exit))
-        × (r .step ≡ hold (stepOf (held f (now (lin .entry)) (now (edges .entry))) i)) ⌝ }
+        × (r .step ≡ hold (stepOf (held f (now (lin .entry)) (now (edges .entry)) (now (states .entry))) i)) ⌝ }
 {
     let a = lin[i];
     let table = table_of(a, near);
     let d = table.deltas;
     let t = table.tees;
     let step = step_of(i, near, d);
-    let dropped = graph::drop_to(lin, edges, masks, f, 3, i);
+    graph::drop_to(lin, edges, masks, states, 3, i);
     let count = near.count;
     let list = near.list;
     let j = list[0] as usize;
     let k = list[1] as usize;
-    let left = absorb(lin, edges, masks, dropped, t, count, j, k);
+    let left = absorb(lin, edges, masks, f, t, count, j, k);
     Reduced {
         frame: left,
         step: step,

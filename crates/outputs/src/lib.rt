@@ -7,7 +7,6 @@ ghost use lib.IntN.{pos};
 ghost use Rattle.whole.specs.Words.{tab};
 ghost use Rattle.graph.specs.Shows.{Shows};
 ghost use Rattle.outputs.specs.Out.{rest, activeOf, Places, Turned, Seen, Row, linearAt, edgeAt};
-use graph::Frame;
 
 // The decisions that remain, and the place of each among them; 64 for one that does not.
 pub struct Remaining {
@@ -17,11 +16,10 @@ pub struct Remaining {
 }
 
 // The active decisions, ascending.
-pub fn still_there(f: Frame) -> Remaining
-    requires { ⌜ f .n ≤ 64 ⌝ }
-    ensures { λ r. ⌜ (rest r ≡ activeOf (f .states) (f .n)) × Places (r .list) (r .len) × Turned (r .list) (r .places) (r .len) ⌝ }
+pub fn still_there(states: &[u8; 64], n: usize) -> Remaining
+    requires { ⌜ n ≤ 64 ⌝ }
+    ensures { λ r. ⌜ (rest r ≡ activeOf (now (states .entry)) n) × Places (r .list) (r .len) × Turned (r .list) (r .places) (r .len) ⌝ }
 {
-    let n = f.n;
     let mut r = Remaining {
         list: [0; 64],
         len: 0,
@@ -29,8 +27,7 @@ pub fn still_there(f: Frame) -> Remaining
     };
     let mut i: usize = 0;
     while i < n {
-        let s = f.states[i];
-        if s == 2 {
+        if states[i] == 2 {
             let at = r.len;
             r.list[at] = i as u8;
             r.places[i] = at as u8;

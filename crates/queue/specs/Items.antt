@@ -13,13 +13,12 @@ unfoldable pub ringFrom : List ℕ → ℕ → ℕ → List ℕ
 ringFrom r h zero = []
 ringFrom r h (suc n) = getD r (h % 64) 0 ∷ ringFrom r (suc h) n
 
--- in its ring
-abbrev pub items : Queue → List ℕ → List ℕ
-items q ring = ringFrom ring (q .head) (q .len)
+abbrev pub items : Queue → List ℕ
+items q = ringFrom (q .places) (q .head) (q .len)
 
--- what every queue keeps: the ring has 64 places; no decision waits twice, so at most 64 wait; and the mask says which
-pub record Kept (q : Queue) (ring : List ℕ) : Type 0 where
-  pub long : length ring ≡ 64
+-- what every queue keeps: it has 64 places; no decision waits twice, so at most 64 wait; and the mask says which
+pub record QueueKept (q : Queue) : Type 0 where
+  pub long : length (q .places) ≡ 64
   pub head : q .head < 64
-  pub apart : Apart 64 (items q ring)
-  pub shown : (k : ℕ) → k < 64 → bit (q .waiting) k ≡ mem k (items q ring)
+  pub apart : Apart 64 (items q)
+  pub shown : (k : ℕ) → k < 64 → bit (q .waiting) k ≡ mem k (items q)

@@ -1,79 +1,72 @@
 // "Take from the front": a queue of waiting decisions, whose methods take self and return the next queue.
 ghost use mathlib.Core.Path.{_≡_};
-ghost use mathlib.Core.Bool.{false};
+ghost use mathlib.Core.Bool.{true, false};
 ghost use Prim.Native.Nat.{ℕ, _<_};
-ghost use mathlib.Core.List.{List, [], _∷_, _++_};
-ghost use lib.ListN.{length};
+ghost use mathlib.Core.List.{[], _∷_, _++_};
+ghost use lib.ListN.{drop};
 ghost use Rattle.whole.specs.Words.{mem};
-ghost use Rattle.queue.specs.Items.{items, Kept};
+ghost use Rattle.whole.specs.Masks.{these};
+ghost use Rattle.queue.specs.Items.{items, QueueKept};
 
-// Where the front stands in a ring of 64 places, which is lent, how many wait, and a mask of those that do.
+// 64 places that go round, where the front stands in them, how many wait, and a mask of those that do.
 pub struct Queue {
     pub head: u32,
     pub len: u32,
     pub waiting: u64,
-}
-
-pub struct Popped {
-    pub decision: usize,
-    pub rest: Queue,
+    pub places: [u8; 64],
 }
 
 impl Queue {
+    // Nobody waits.
     pub fn new() -> Queue
-        ensures { λ r. ⌜ ((ring : List ℕ) → length ring ≡ 64 → (items r ring ≡ []) × Kept r ring) ⌝ }
+        ensures { λ r. ⌜ (items r ≡ []) × QueueKept r ⌝ }
     {
         Queue {
             head: 0,
             len: 0,
             waiting: 0,
+            places: [0; 64],
         }
     }
 
-    // The front, and the queue without it.
-    pub fn pop(self, ring: &[u8; 64]) -> Popped
-        requires { ⌜ Kept self (now ring) × (0 < self .len) ⌝ }
-        ensures { λ r. ⌜ (items self (now (ring .entry)) ≡ r .decision ∷ items (r .rest) (now (ring .entry))) × (r .decision < 64) × Kept (r .rest) (now (ring .entry)) ⌝ }
+    // Who is in front.
+    pub fn front(self) -> usize
+        requires { ⌜ QueueKept self × (0 < self .len) ⌝ }
+        ensures { λ r. ⌜ (r < 64) × (items self ≡ r ∷ drop 1 (items self)) ⌝ }
     {
         let h = self.head as usize;
-        let n = self.len;
-        let w = self.waiting;
-        let d = ring[h] as usize;
-        let one: u64 = 1 << d;
-        let rest = Queue {
-            head: (self.head + 1) % 64,
-            len: n - 1,
-            waiting: w ^ (w & one),
-        };
-        Popped {
-            decision: d,
-            rest: rest,
-        }
+        self.places[h] as usize
     }
 
-    // d, which does not wait, joins the back: so there is room.
-    pub fn push(self, ring: &mut [u8; 64], d: usize) -> Queue
-        requires { ⌜ Kept self (now ring) × (d < 64) × (mem d (items self (now ring)) ≡ false) ⌝ }
-        ensures { λ r. ⌜ (items r (now (ring .exit)) ≡ items self (now (ring .entry)) ++ (d ∷ [])) × Kept r (now (ring .exit)) ⌝ }
+    // Those behind the front.
+    pub fn behind(self) -> Queue
+        requires { ⌜ QueueKept self × (0 < self .len) ⌝ }
+        ensures { λ r. ⌜ (items r ≡ drop 1 (items self)) × QueueKept r ⌝ }
     {
-        let h = self.head;
-        let n = self.len;
-        let w = self.waiting;
-        let at = ((h + n) % 64) as usize;
+        let d = self.front();
         let one: u64 = 1 << d;
-        ring[at] = d as u8;
-        Queue {
-            head: h,
-            len: n + 1,
-            waiting: w | one,
-        }
+        let mut next = self;
+        next.head = (self.head + 1) % 64;
+        next.len = self.len - 1;
+        next.waiting = whole::without(self.waiting, one);
+        next
     }
 
-    // Whether d waits.
-    pub fn waits(self, d: usize) -> bool
-        requires { ⌜ d < 64 ⌝ }
-        ensures { λ r. ⌜ ((ring : List ℕ) → Kept self ring → r ≡ mem d (items self ring)) ⌝ }
+    // The decisions of a mask, none of which waits, join the back, ascending: so there is room.
+    pub fn push_all(self, new: u64) -> Queue
+        requires { ⌜ QueueKept self × ((k : ℕ) → mem k (these new) ≡ true → mem k (items self) ≡ false) ⌝ }
+        ensures { λ r. ⌜ (items r ≡ items self ++ these new) × QueueKept r ⌝ }
     {
-        (self.waiting >> d) % 2 == 1
+        let mut next = self;
+        let mut rest = new;
+        while rest != 0 {
+            let d = u64::trailing_zeros(rest);
+            let at = ((next.head + next.len) % 64) as usize;
+            next.places[at] = d as u8;
+            next.len = next.len + 1;
+            rest = rest & (rest - 1);
+        }
+        next.waiting = self.waiting | new;
+        next
     }
 }

@@ -12,7 +12,7 @@ use Rattle.rules.specs.declared.Counts.{Counts}
 use Rattle.rules.specs.declared.Record.{Record}
 use Rattle.rules.specs.declared.Reduction.{Reduction}
 use Rattle.state.specs.declared.State.{State}
-use Rattle.steps.specs.declared.Steps.{Steps}
+use Rattle.state.specs.declared.steps.Steps.{Steps}
 use Rattle.run.specs.declared.Ended.{Ended}
 
 pub record Gives (o : Objective) (l e : List ℤ) (r : Reduction) (l′ e′ : List ℤ) : Type 0 where
@@ -31,8 +31,8 @@ pub record Done (o : Objective) (r : Reduction) (l e : List ℤ) : Type 0 where
   pub edges : e ≡ outcome o .edges
 
 -- ---- the parts of a reduction, from where the code's run ended
-abbrev pub recordFrom : State → Steps → Record
-recordFrom s made = record { n = s .frame .n; count = made .count; constant = s .frame .constant; states = s .frame .states; steps = made .list }
+abbrev pub recordFrom : State → List ℕ → Steps → Record
+recordFrom s states made = record { n = s .frame .n; count = made .count; constant = s .frame .constant; states = states; steps = made .list }
 
 abbrev pub countsFrom : State → ℕ → Counts
 countsFrom s remaining = record {
@@ -48,10 +48,10 @@ countsFrom s remaining = record {
   «block_variables» = s .tally .«in_blocks»;
 }
 
-abbrev pub reportFrom : Ended → ℕ → Reduction
-reportFrom r remaining = record {
+abbrev pub reportFrom : Ended → List ℕ → ℕ → Reduction
+reportFrom r states remaining = record {
   answer = 0;
-  «record» = recordFrom (r .state) (r .steps);
+  «record» = recordFrom (r .state) states (r .steps);
   counts = countsFrom (r .state) remaining;
   takes = r .state .takes;
   blocks = r .state .blocks;

@@ -23,18 +23,19 @@ use Rattle.run_laws.specs.InOrder.{Room}
 use Rattle.run_laws.specs.InOrderLaws.{ended-room}
 use Rattle.outputs.specs.Out.{rest, activeOf, Places, linearAt, edgeAt}
 use Rattle.outputs.specs.declared.Remaining.{Remaining}
-use Rattle.outputs.proofs.Laws.{linear-of, edges-of}
-use Rattle.state.specs.Holds.{Lent, graphIn, tallyOf}
-use Rattle.run.specs.Going.{Ends}
+use Rattle.outputs.specs.OutLaws.{linear-of, edges-of}
+use Rattle.rules.specs.Options.{asked}
+use Rattle.state.specs.Holds.{Arrays, graphIn}
+use Rattle.run.specs.Course.{Ends}
 use Rattle.run.specs.declared.Ended.{Ended}
 use Rattle.reduce.specs.Gives.{Gives, Done, reportFrom}
 
 -- the run that the code made is the run of the objective
-pub ended-at : (o : Objective) (g : Graph) (r : Ended) (w : Lent) → g ≡ start o → Ends (rule.run (o .budget) (o .switches) (rule.begin (o .switches) g)) r w → Ends (rule.ended o) r w
+pub ended-at : (o : Objective) (g : Graph) (r : Ended) (w : Arrays) → g ≡ start o → Ends (rule.run (o .budget) (asked o) (rule.begin (asked o) g)) r w → Ends (rule.ended o) r w
 unfolding rule.ended
-ended-at o g r w h k = subst (λ (x : Graph). Ends (rule.run (o .budget) (o .switches) (rule.begin (o .switches) x)) r w) h k
+ended-at o g r w h k = subst (λ (x : Graph). Ends (rule.run (o .budget) (asked o) (rule.begin (asked o) x)) r w) h k
 
-module _ (o : Objective) (fit : Fit o) (r : Ended) (w : Lent) (k : Ends (rule.ended o) r w) where
+module _ (o : Objective) (fit : Fit o) (r : Ended) (w : Arrays) (k : Ends (rule.ended o) r w) where
   S : rule.State
   S = rule.ended o .state
 
@@ -42,56 +43,39 @@ module _ (o : Objective) (fit : Fit o) (r : Ended) (w : Lent) (k : Ends (rule.en
   room = ended-room o fit
 
   pub end-few : r .state .frame .n ≤ 64
-  end-few = omega (arith, ap (λ (g : Graph). g .n) (k .state .graph), room .n)
+  end-few = omega (arith, ap (λ (g : Graph). g .n) (k .holds .graph), room .n)
 
   pub end-steps : r .steps .count ≤ 64
-  end-steps = omega (arith, k .steps .count, room .steps)
+  end-steps = omega (arith, k .holds .steps .count, room .steps)
 
   pub end-blocks : r .state .blocks ≤ 32
-  end-blocks = omega (arith, k .state .blocks, room .blocks)
+  end-blocks = omega (arith, k .holds .blocks, room .blocks)
 
   pub end-units : r .state .takes + r .state .blocks < 4294967296
-  end-units = omega (arith, k .state .takes, k .state .blocks, ended-few o fit)
+  end-units = omega (arith, k .holds .takes, k .holds .blocks, ended-few o fit)
 
-  module _ (m : Remaining) (is : rest m ≡ activeOf (r .state .frame .states) (r .state .frame .n)) (ok : Places (m .list) (m .len)) where
+  module _ (m : Remaining) (is : rest m ≡ activeOf (w .states) (o .n)) (ok : Places (m .list) (m .len)) where
     listed : rest m ≡ actives (graphIn (r .state) w)
     unfolding actives
-    listed = is
+    listed = is ∙ ap (activeOf (w .states)) (sym (ap (λ (g : Graph). g .n) (k .holds .graph) ∙ ended-n o fit))
 
     remaining : m .len ≡ length (actives (rule.ended o .state .graph))
-    remaining = sym (length-take-le (m .len) (m .list) (omega (arith, ok .few, ok .long))) ∙ ap length listed ∙ ap (λ (g : Graph). length (actives g)) (k .state .graph)
+    remaining = sym (length-take-le (m .len) (m .list) (omega (arith, ok .few, ok .long))) ∙ ap length listed ∙ ap (λ (g : Graph). length (actives g)) (k .holds .graph)
 
-    reports : reportFrom r (m .len) ≡ reported (o .n) (outcome o)
+    reports : reportFrom r (w .states) (m .len) ≡ reported (o .n) (outcome o)
     unfolding outcome outcomeOf
     reports =
-        let n : r .state .frame .n ≡ o .n = ap (λ (g : Graph). g .n) (k .state .graph) ∙ ended-n o fit in
-        let c = ap (λ (g : Graph). g .constant) (k .state .graph) in
-        let ss = ap (λ (g : Graph). g .states) (k .state .graph) in
-        let t : (f : rule.Tally → ℕ) → f (tallyOf (r .state .tally)) ≡ f (rule.ended o .state .counted) = λ f. ap f (k .state .counted) in
-        cc (
-          n,
-          c,
-          ss,
-          remaining,
-          k .steps .list,
-          k .steps .count,
-          k .state .takes,
-          k .state .blocks,
-          k .complete,
-          t (λ (x : rule.Tally). x .eliminated),
-          t (λ (x : rule.Tally). x .three),
-          t (λ (x : rule.Tally). x .skipped),
-          t (λ (x : rule.Tally). x .contracted),
-          t (λ (x : rule.Tally). x .weakly),
-          t (λ (x : rule.Tally). x .inBlocks),
-        )
+        let n : r .state .frame .n ≡ o .n = ap (λ (g : Graph). g .n) (k .holds .graph) ∙ ended-n o fit in
+        let c = ap (λ (g : Graph). g .constant) (k .holds .graph) in
+        let ss = ap (λ (g : Graph). g .states) (k .holds .graph) in
+        cc (n, c, ss, remaining, k .holds .steps .list, k .holds .steps .count, k .holds .takes, k .holds .blocks, k .complete, k .holds .counted)
 
-    pub done : (z : Reduction) (l′ e′ : List ℤ) → z ≡ reportFrom r (m .len) → l′ ≡ tab (linearAt (w .linear) (m .list) (m .len)) 64 → e′ ≡ tab (edgeAt (w .edges) (m .list) (m .len)) 4096 → Done o z l′ e′
+    pub done : (z : Reduction) (l′ e′ : List ℤ) → z ≡ reportFrom r (w .states) (m .len) → l′ ≡ tab (linearAt (w .linear) (m .list) (m .len)) 64 → e′ ≡ tab (edgeAt (w .edges) (m .list) (m .len)) 4096 → Done o z l′ e′
     unfolding outcome outcomeOf
     done z l′ e′ p q s = record {
       reduction = p ∙ reports;
-      linear = q ∙ linear-of (graphIn (r .state) w) m ok listed ∙ ap linearOut (k .state .graph);
-      edges = s ∙ edges-of (graphIn (r .state) w) m ok listed ∙ ap edgeOut (k .state .graph);
+      linear = q ∙ linear-of (graphIn (r .state) w) m ok listed ∙ ap linearOut (k .holds .graph);
+      edges = s ∙ edges-of (graphIn (r .state) w) m ok listed ∙ ap edgeOut (k .holds .graph);
     }
 
 -- the number in a reduction is the refusal's

@@ -12,7 +12,7 @@ use rules::Record;
 use rules::Reduction;
 use run::Ended;
 use state::State;
-use steps::Steps;
+use state::steps::Steps;
 
 // A refusal: its number, and nothing else.
 fn refusal_of(number: u8) -> Reduction
@@ -43,13 +43,12 @@ fn refusal_of(number: u8) -> Reduction
 }
 
 // How to grow an answer back.
-fn record_of(s: State, made: Steps) -> Record
+fn record_of(s: State, states: [u8; 64], made: Steps) -> Record
     requires { ⌜ (s .frame .n ≤ 64) × (made .count ≤ 64) ⌝ }
-    ensures { λ r. ⌜ r ≡ recordFrom s made ⌝ }
+    ensures { λ r. ⌜ r ≡ recordFrom s states made ⌝ }
 {
     let n = s.frame.n;
     let count = made.count;
-    let states = s.frame.states;
     let steps = made.list;
     Record {
         n: n as u8,
@@ -79,22 +78,21 @@ fn counts_of(s: State, remaining: usize) -> Counts
 }
 
 // "One unit per take and one per block eliminated."
-fn report(ended: Ended, remaining: usize) -> Reduction
+fn report(ended: Ended, states: [u8; 64], remaining: usize) -> Reduction
     requires { ⌜ (ended .state .frame .n ≤ 64) × (ended .steps .count ≤ 64) × (remaining ≤ 64) × (ended .state .blocks ≤ 32) × (ended .state .takes + ended .state .blocks < 4294967296) ⌝ }
-    ensures { λ r. ⌜ r ≡ reportFrom ended remaining ⌝ }
+    ensures { λ r. ⌜ r ≡ reportFrom ended states remaining ⌝ }
 {
     let s = ended.state;
-    let record = record_of(s, ended.steps);
+    let record = record_of(s, states, ended.steps);
     let counts = counts_of(s, remaining);
-    let takes = s.takes;
-    let blocks = s.blocks;
+    let units = state::units(s);
     Reduction {
         answer: 0,
         record: record,
         counts: counts,
-        takes: takes,
-        blocks: blocks,
-        units: takes + blocks,
+        takes: s.takes,
+        blocks: s.blocks,
+        units: units,
         complete: ended.complete,
     }
 }
@@ -118,10 +116,12 @@ pub fn accepted(
     let mut lin = [0i64; 64];
     let mut edg = [0i64; 4096];
     let mut masks = [0u64; 64];
+    let mut states = [0u8; 64];
     let frame = graph::begin(
         &mut lin,
         &mut edg,
         &mut masks,
+        &mut states,
         n,
         weights,
         firsts,
@@ -129,12 +129,20 @@ pub fn accepted(
         term_weights,
         fixings,
     );
-    let ended = run::run(&mut lin, &mut edg, &mut masks, frame, switches, budget);
-    let left = ended.state.frame;
-    let rest = outputs::still_there(left);
+    let options = rules::options_of(switches);
+    let ended = run::run(
+        &mut lin,
+        &mut edg,
+        &mut masks,
+        &mut states,
+        frame,
+        options,
+        budget,
+    );
+    let rest = outputs::still_there(&states, n);
     outputs::write_linear(&mut linear[..], &lin, rest);
     outputs::write_edges(&mut edges[..], &edg, &masks, rest);
-    report(ended, rest.len)
+    report(ended, states, rest.len)
 }
 
 // "Any lengths, numbers and bytes may be passed": a refusal's number with the lent slices unchanged, or the whole reduction.

@@ -14,7 +14,8 @@ use Rattle.rules.specs.Eliminate.{Step, step, stepOf, absorb, eliminate}
 use Rattle.rules.specs.DegreeThree.{moebius, addPairs, absorb3, eliminate3}
 use Rattle.rules.specs.DominantEdge.{negatives, positives, first, dominant, turn, move, contract, contractStep}
 use Rattle.rules.specs.SmallBlock.{grow, isCut, among, overCuts, overRemoved, search, findBlock, boundary, inner, cheapest, dropAll, eliminateBlock, blockSteps}
-use Rattle.rules.specs.Run.{plus, waiting, join, orThree, way, reduced, skipped, go, takeFront, blocked, dueBlock, dueAt, run, begin, ended}
+use Rattle.rules.specs.Counts.{plus}
+use Rattle.rules.specs.Run.{waiting, join, orThree, way, reduced, skipped, go, takeFront, blocked, dueBlock, dueAt, run, begin, ended}
 use Rattle.rules.specs.Outcome.{linearOut, cell, edgeOut, Outcome, outcomeOf, outcome}
 use Rattle.rules.specs.Refuse.{firstRow, badLengths, badIndex, badLent, badFixing, tooHeavy, reduceRefusal}
 use Rattle.rules.specs.Bytes.{bytes}

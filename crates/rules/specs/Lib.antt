@@ -1,4 +1,5 @@
 pub mod Objective
+pub mod Options
 pub mod Graph
 pub mod Fixing
 pub mod Eliminate
@@ -6,6 +7,7 @@ pub mod DegreeThree
 pub mod DominantEdge
 pub mod SmallBlock
 pub mod Size
+pub mod Counts
 pub mod Run
 pub mod Outcome
 pub mod Back

@@ -1,10 +1,8 @@
 -- 01, "The objective we accept".
 -- Assumes nothing.
-use mathlib.Core.Bool.{Bool}
 use mathlib.Core.List.{List, [], _∷_}
 use Prim.Native.Nat.{ℕ, _+_}
 use lib.IntN.{ℤ, natAbs}
-use Rattle.whole.specs.Words.{bit}
 
 pub record Objective : Type 0 where
   -- "n decisions x, each 0 or 1"
@@ -20,19 +18,6 @@ pub record Objective : Type 0 where
   pub switches : ℕ
   -- "Budget: any u32."
   pub budget : ℕ
-
--- "Switch bits: 0 low degree, 1 degree three, 2 dominant edge, 3 small block."
-abbrev pub lowDegree : ℕ → Bool
-lowDegree sw = bit sw 0
-
-abbrev pub degreeThree : ℕ → Bool
-degreeThree sw = bit sw 1
-
-abbrev pub dominantEdge : ℕ → Bool
-dominantEdge sw = bit sw 2
-
-abbrev pub smallBlock : ℕ → Bool
-smallBlock sw = bit sw 3
 
 -- "the absolute values of all weights given, linear and pair, before any adding up"
 unfoldable pub weightOf : List ℤ → ℕ

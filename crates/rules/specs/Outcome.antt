@@ -37,7 +37,7 @@ countsOf s = record {
   remaining = length (actives (s .graph));
   passes = 1 + s .blocks;
   «blocks_eliminated» = s .blocks;
-  «block_variables» = s .counted .inBlocks;
+  «block_variables» = s .counted .«in_blocks»;
 }
 
 -- "One unit per take and one per block eliminated." "Units used are reported."

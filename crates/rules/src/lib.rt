@@ -1,6 +1,27 @@
 // What the calls of 01-scope.md take and give back. The rules themselves stand in specs/.
 ghost use mathlib.Core.Path.{_≡_};
+ghost use Rattle.rules.specs.Options.{optionsOf};
 ghost use Rattle.rules.specs.Record.{noStep, noRecord};
+
+// What a run is asked besides its objective: which reductions it makes.
+pub struct Options {
+    pub low_degree: bool,
+    pub degree_three: bool,
+    pub dominant_edge: bool,
+    pub small_block: bool,
+}
+
+// "Switch bits: 0 low degree, 1 degree three, 2 dominant edge, 3 small block."
+pub fn options_of(switches: u32) -> Options
+    ensures { λ r. ⌜ r ≡ optionsOf switches ⌝ }
+{
+    Options {
+        low_degree: switches % 2 == 1,
+        degree_three: switches / 2 % 2 == 1,
+        dominant_edge: switches / 4 % 2 == 1,
+        small_block: switches / 8 % 2 == 1,
+    }
+}
 
 // A step as the record holds it: decision, degree d, three neighbours, choices (bit m for mask m).
 pub struct Step {
@@ -53,6 +74,16 @@ pub fn no_record() -> Record
 pub struct Reading {
     pub answer: u8,
     pub record: Record,
+}
+
+// The counts that a reduction adds to.
+pub struct Tally {
+    pub eliminated: u32,
+    pub three: u32,
+    pub skipped: u32,
+    pub contracted: u32,
+    pub weakly: u32,
+    pub in_blocks: u32,
 }
 
 // The counts of `RootReductionStatistics`, cut dominance aside.

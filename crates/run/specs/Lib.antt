@@ -1,4 +1,4 @@
-pub mod Going
-pub mod GoingLaws
-pub mod TurnLaws
-pub mod Along
+pub mod Course
+pub mod CourseLaws
+pub mod Blocks
+pub mod BlocksLaws

@@ -1,31 +1,34 @@
 // The run: what is due is done, one unit each, until nothing is due or no unit is left.
 ghost use mathlib.Core.Path.{_≡_};
-ghost use mathlib.Core.Bool.{true, false};
-ghost use mathlib.Core.List.{List};
-ghost use Prim.Native.Nat.{ℕ, _<_, _≤_};
+ghost use mathlib.Core.List.{[]};
+ghost use Prim.Native.Nat.{_+_, _≤_};
+ghost use Rattle.rules.specs.Counts.{nothingCounted};
 ghost use Rattle.rules.specs.Run as rule;
 ghost use Rattle.rules.specs.Run.{begin as begun, run as ran};
 ghost use Rattle.graph.specs.Held.{held};
 ghost use Rattle.graph.specs.Shows.{Shows};
-ghost use Rattle.queue.specs.Items.{Kept};
-ghost use Rattle.state.specs.Holds.{lent};
-ghost use Rattle.block_turn.specs.Blocks.{Searchable};
-ghost use Rattle.run.specs.Going.{Started, Along, Turns, Knows, Ends};
+ghost use Rattle.state.specs.Steps.{StepsKept};
+ghost use Rattle.state.specs.Holds.{arrays};
+ghost use Rattle.run.specs.Course.{Started, ToPass, Passes, Ends};
 use graph::Frame;
+use rules::Options;
+use rules::Tally;
 use state::State;
-use steps::Steps;
+use state::steps::Steps;
+use state::waiting;
 
-// How far a run has come: its state, its steps and the units that it has used.
-pub struct Come {
+mod block; // the block that is due
+
+// How far a run has come: its state and its steps.
+pub struct Reached {
     pub state: State,
     pub steps: Steps,
-    pub units: u32,
 }
 
-// How far it has come, and whether anything was due before.
-pub struct Turned {
-    pub due: bool,
-    pub come: Come,
+// How far a pass has come, and whether someone still waits: then no unit was left.
+pub struct Passed {
+    pub more: bool,
+    pub reached: Reached,
 }
 
 // Where a run ended.
@@ -35,102 +38,84 @@ pub struct Ended {
     pub steps: Steps,
 }
 
-// Takes from the front, until nobody waits or no unit is left.
+// Before anything is taken.
+fn start_at(frame: Frame) -> Reached
+    ensures { λ r. ⌜ (r .state ≡ record { frame = frame; tally = nothingCounted; takes = 0; blocks = 0 }) × StepsKept (r .steps) [] ⌝ }
+{
+    let none = Tally {
+        eliminated: 0,
+        three: 0,
+        skipped: 0,
+        contracted: 0,
+        weakly: 0,
+        in_blocks: 0,
+    };
+    let state = State {
+        frame: frame,
+        tally: none,
+        takes: 0,
+        blocks: 0,
+    };
+    let steps = state::steps::no_steps();
+    Reached {
+        state: state,
+        steps: steps,
+    }
+}
+
+fn leave_pass(s: State, steps: Steps, more: bool) -> Passed
+    ensures { λ r. ⌜ r ≡ record { more = more; reached = record { state = s; steps = steps } } ⌝ }
+{
+    let reached = Reached {
+        state: s,
+        steps: steps,
+    };
+    Passed {
+        more: more,
+        reached: reached,
+    }
+}
+
+// A pass queues who is eligible and takes from the front, until nobody waits or no unit is left.
 fn pass(
     lin: &mut [i64; 64],
     edges: &mut [i64; 4096],
     masks: &mut [u64; 64],
-    ring: &mut [u8; 64],
-    from: Come,
-    switches: u32,
+    states: &mut [u8; 64],
+    from: Reached,
+    options: Options,
     budget: u32,
-) -> Come
-    requires { ⌜ ((E : rule.Ended) × Along budget switches E from (lent (now lin) (now edges) (now masks) (now ring))) ⌝ }
-    ensures { λ r. ⌜ ((E : rule.Ended) → Along budget switches E from (lent (now (lin .entry)) (now (edges .entry)) (now (masks .entry)) (now (ring .entry))) → Along budget switches E r (lent (now (lin .exit)) (now (edges .exit)) (now (masks .exit)) (now (ring .exit))))
-        × (from .units ≤ r .units) × (r .units < budget → r .state .queue .len ≡ 0) ⌝ }
+) -> Passed
+    requires { ⌜ ((E : rule.Ended) × ToPass budget options E from (arrays (now lin) (now edges) (now masks) (now states))) ⌝ }
+    ensures { λ r. ⌜ ((E : rule.Ended) → ToPass budget options E from (arrays (now (lin .entry)) (now (edges .entry)) (now (masks .entry)) (now (states .entry))) → Passes budget options E r (arrays (now (lin .exit)) (now (edges .exit)) (now (masks .exit)) (now (states .exit))))
+        × (from .state .takes + from .state .blocks ≤ r .reached .state .takes + r .reached .state .blocks) ⌝ }
 {
     let mut s = from.state;
     let mut steps = from.steps;
-    let mut units = from.units;
-    while units < budget {
-        let waiting = s.queue.len;
-        if waiting == 0 {
-            return Come {
-                state: s,
-                steps: steps,
-                units: units,
-            };
+    let mut q = waiting::first_queue(masks, states, options);
+    while q.len != 0 {
+        if state::units(s) == budget {
+            return leave_pass(s, steps, true);
         }
-        let t = take::take(lin, edges, masks, ring, s, switches);
+        let i = q.front();
+        let t = take::take(lin, edges, masks, states, s.frame, i, options);
+        q = q.behind();
         if t.stepped {
             let at = steps.count;
             let step = t.step;
             steps.list[at] = step;
             steps.count = at + 1;
+            q = waiting::rejoin(masks, states, options, q, t.near);
         }
-        let next = t.state;
-        s = next;
-        units = units + 1;
+        let frame = t.frame;
+        let did = t.did;
+        s = state::after(s, frame, did);
     }
-    Come {
-        state: s,
-        steps: steps,
-        units: units,
-    }
-}
-
-// Nobody waits: the block that is due goes; where none is, all stays.
-fn turn(
-    lin: &mut [i64; 64],
-    edges: &mut [i64; 4096],
-    masks: &mut [u64; 64],
-    ring: &mut [u8; 64],
-    from: Come,
-    switches: u32,
-    budget: u32,
-) -> Turned
-    requires { ⌜ ((E : rule.Ended) × Along budget switches E from (lent (now lin) (now edges) (now masks) (now ring))) × (from .units < budget) × (from .state .queue .len ≡ 0) ⌝ }
-    ensures { λ r. ⌜ ((E : rule.Ended) → Along budget switches E from (lent (now (lin .entry)) (now (edges .entry)) (now (masks .entry)) (now (ring .entry))) → Turns budget switches E r (lent (now (lin .exit)) (now (edges .exit)) (now (masks .exit)) (now (ring .exit))))
-        × (r .due ≡ true → from .units < r .come .units) ⌝ }
-{
-    let s = from.state;
-    let found = block_turn::due_block(edges, s, switches);
-    if found.count == 0 {
-        return Turned {
-            due: false,
-            come: from,
-        };
-    }
-    let before = from.steps;
-    let gone = block_turn::take_block(lin, edges, masks, ring, s, before, found, switches);
-    let state = gone.state;
-    let steps = gone.steps;
-    let next = Come {
-        state: state,
-        steps: steps,
-        units: from.units + 1,
-    };
-    Turned {
-        due: true,
-        come: next,
-    }
-}
-
-// Is anything due?
-fn is_due(edges: &[i64; 4096], s: State, switches: u32) -> bool
-    requires { ⌜ Searchable s (now edges) ⌝ }
-    ensures { λ r. ⌜ Knows switches s (now (edges .entry)) r ⌝ }
-{
-    let waiting = s.queue.len;
-    if waiting != 0 {
-        return true;
-    }
-    let found = block_turn::due_block(edges, s, switches);
-    found.count != 0
+    leave_pass(s, steps, false)
 }
 
 // It ends here.
-fn ends_at(at: Come, complete: bool) -> Ended
+fn ends_at(at: Reached, complete: bool) -> Ended
     ensures { λ r. ⌜ r ≡ record { complete = complete; state = at .state; steps = at .steps } ⌝ }
 {
     let state = at.state;
@@ -142,36 +127,34 @@ fn ends_at(at: Come, complete: bool) -> Ended
     }
 }
 
-// A run of at most `budget` units.
+// A run of at most `budget` units: passes, and a block between two of them.
 pub fn run(
     lin: &mut [i64; 64],
     edges: &mut [i64; 4096],
     masks: &mut [u64; 64],
+    states: &mut [u8; 64],
     frame: Frame,
-    switches: u32,
+    options: Options,
     budget: u32,
 ) -> Ended
-    requires { ⌜ Started frame (now lin) (now edges) × Shows (frame .n) (now edges) (now masks) ⌝ }
-    ensures { λ r. ⌜ ((q : List ℕ) × Ends (ran budget switches (begun switches (held frame (now (lin .entry)) (now (edges .entry))))) r (lent (now (lin .exit)) (now (edges .exit)) (now (masks .exit)) q)) ⌝ }
+    requires { ⌜ Started frame (now lin) (now edges) (now states) × Shows (frame .n) (now edges) (now masks) ⌝ }
+    ensures { λ r. ⌜ Ends (ran budget options (begun options (held frame (now (lin .entry)) (now (edges .entry)) (now (states .entry))))) r (arrays (now (lin .exit)) (now (edges .exit)) (now (masks .exit)) (now (states .exit))) ⌝ }
 {
-    let mut ring = [0u8; 64];
-    let first = state::begin(masks, &mut ring, frame, switches);
-    let none = steps::no_steps();
-    let start = Come {
-        state: first,
-        steps: none,
-        units: 0,
-    };
-    let mut come = pass(lin, edges, masks, &mut ring, start, switches, budget);
-    while come.units < budget {
-        let t = turn(lin, edges, masks, &mut ring, come, switches, budget);
-        let after = t.come;
-        if t.due {
-            come = pass(lin, edges, masks, &mut ring, after, switches, budget);
-        } else {
-            return ends_at(after, true);
+    let mut at = start_at(frame);
+    loop {
+        let p = pass(lin, edges, masks, states, at, options, budget);
+        let reached = p.reached;
+        if p.more {
+            return ends_at(reached, false);
         }
+        let n = reached.state.frame.n;
+        let found = block::due_block(masks, states, n, options);
+        if found.count == 0 {
+            return ends_at(reached, true);
+        }
+        if state::units(reached.state) == budget {
+            return ends_at(reached, false);
+        }
+        at = block::take_block(lin, edges, masks, states, reached, found);
     }
-    let more = is_due(edges, come.state, switches);
-    ends_at(come, !more)
 }

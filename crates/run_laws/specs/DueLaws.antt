@@ -5,7 +5,9 @@ use mathlib.Core.Bool.{Bool, true, false, cond}
 use mathlib.Core.List.{List, [], _∷_}
 use Prim.Native.Nat.{ℕ, zero, suc, _+_, _-_, _<_, _≤_}
 use native.Mathlib.Omega.{arith}
-use Rattle.rules.specs.Objective.{Objective, smallBlock}
+use Rattle.rules.specs.Options.{asked, smallBlock}
+use Rattle.rules.specs.declared.Options.{Options}
+use Rattle.rules.specs.Objective.{Objective}
 use Rattle.rules.specs.SmallBlock.{Block, none, members, findBlock}
 use Rattle.rules.specs.Fixing.{start}
 use Rattle.rules.specs.Outcome.{units}
@@ -14,49 +16,49 @@ use Rattle.cost_laws.specs.RunLaws.{Used, run-used}
 use Rattle.whole.specs.Counts.{one-left}
 
 -- "a take or a found block is due"
-pub data Due (sw : ℕ) (s : State) : State → Type 0 where
+pub data Due (opt : Options) (s : State) : State → Type 0 where
   -- "Take from the front."
-  take : {i : ℕ} {q : List ℕ} → s .queue ≡ i ∷ q → Due sw s (go (way sw (s .graph) i) sw i (takeFront q s))
+  take : {i : ℕ} {q : List ℕ} → s .queue ≡ i ∷ q → Due opt s (go (way opt (s .graph) i) opt i (takeFront q s))
   -- "When the queue is empty and small block is on, search for a block. If one is found, eliminate it"
-  block : {b : List ℕ} → s .queue ≡ [] → smallBlock sw ≡ true → findBlock (s .graph) ≡ members b → Due sw s (blocked sw b s)
+  block : {b : List ℕ} → s .queue ≡ [] → smallBlock opt ≡ true → findBlock (s .graph) ≡ members b → Due opt s (blocked opt b s)
 
-module _ (sw : ℕ) (s : State) where
-  block-due : (t : State) (c : Bool) (b : Block) → smallBlock sw ≡ c → findBlock (s .graph) ≡ b → s .queue ≡ [] → dueBlock sw s (cond c b none) ≡ due t → Due sw s t
+module _ (opt : Options) (s : State) where
+  block-due : (t : State) (c : Bool) (b : Block) → smallBlock opt ≡ c → findBlock (s .graph) ≡ b → s .queue ≡ [] → dueBlock opt s (cond c b none) ≡ due t → Due opt s t
   unfolding dueBlock
-  block-due t true (members b) h f q e = let same : blocked sw b s ≡ t = cc in subst (Due sw s) same (block q h f)
+  block-due t true (members b) h f q e = let same : blocked opt b s ≡ t = cc in subst (Due opt s) same (block q h f)
   block-due t true none h f q e = let z : _≡_ {A = ℕ} 0 1 = cc in absurd (omega arith)
   block-due t false b h f q e = let z : _≡_ {A = ℕ} 0 1 = cc in absurd (omega arith)
 
-  pub next-due : (t : State) → next sw s ≡ due t → Due sw s t
+  pub next-due : (t : State) → next opt s ≡ due t → Due opt s t
   unfolding dueAt
   next-due t = from (s .queue) refl
     where
-      from : (q : List ℕ) → s .queue ≡ q → dueAt sw s q ≡ due t → Due sw s t
-      from [] h e = block-due t (smallBlock sw) (findBlock (s .graph)) refl refl h e
-      from (i ∷ q) h e = let same : go (way sw (s .graph) i) sw i (takeFront q s) ≡ t = cc in subst (Due sw s) same (take h)
+      from : (q : List ℕ) → s .queue ≡ q → dueAt opt s q ≡ due t → Due opt s t
+      from [] h e = block-due t (smallBlock opt) (findBlock (s .graph)) refl refl h e
+      from (i ∷ q) h e = let same : go (way opt (s .graph) i) opt i (takeFront q s) ≡ t = cc in subst (Due opt s) same (take h)
 
 -- one turn of the run's recursion
-pub run-over : (b sw : ℕ) (s : State) → next sw s ≡ over → run b sw s ≡ record { state = s; complete = true }
+pub run-over : (b : ℕ) (opt : Options) (s : State) → next opt s ≡ over → run b opt s ≡ record { state = s; complete = true }
 unfolding run
-run-over zero sw s e = ap (λ (x : Next). onward x s (λ t. record { state = s; complete = false })) e
-run-over (suc b) sw s e = ap (λ (x : Next). onward x s (λ t. run b sw t)) e
+run-over zero opt s e = ap (λ (x : Next). onward x s (λ t. record { state = s; complete = false })) e
+run-over (suc b) opt s e = ap (λ (x : Next). onward x s (λ t. run b opt t)) e
 
-pub run-due : (b sw : ℕ) (s t : State) → next sw s ≡ due t → run (suc b) sw s ≡ run b sw t
+pub run-due : (b : ℕ) (opt : Options) (s t : State) → next opt s ≡ due t → run (suc b) opt s ≡ run b opt t
 unfolding run
-run-due b sw s t e = ap (λ (x : Next). onward x s (λ u. run b sw u)) e
+run-due b opt s t e = ap (λ (x : Next). onward x s (λ u. run b opt u)) e
 
 -- the same with u units used of a budget, as a loop that counts them has it
-pub run-turn : (budget u sw : ℕ) (s t : State) → u < budget → next sw s ≡ due t → run (budget - u) sw s ≡ run (budget - (u + 1)) sw t
-run-turn budget u sw s t l e = ap (λ (b : ℕ). run b sw s) (one-left budget u l) ∙ run-due (budget - (u + 1)) sw s t e
+pub run-turn : (budget u : ℕ) (opt : Options) (s t : State) → u < budget → next opt s ≡ due t → run (budget - u) opt s ≡ run (budget - (u + 1)) opt t
+run-turn budget u opt s t l e = ap (λ (b : ℕ). run b opt s) (one-left budget u l) ∙ run-due (budget - (u + 1)) opt s t e
 
-pub run-cut : (sw : ℕ) (s t : State) → next sw s ≡ due t → run 0 sw s ≡ record { state = s; complete = false }
+pub run-cut : (opt : Options) (s t : State) → next opt s ≡ due t → run 0 opt s ≡ record { state = s; complete = false }
 unfolding run
-run-cut sw s t e = ap (λ (x : Next). onward x s (λ u. record { state = s; complete = false })) e
+run-cut opt s t e = ap (λ (x : Next). onward x s (λ u. record { state = s; complete = false })) e
 
 -- a budget of 1 goes one thing on
-pub run-one : (sw : ℕ) (s t : State) → next sw s ≡ due t → run 1 sw s .state ≡ t
+pub run-one : (opt : Options) (s t : State) → next opt s ≡ due t → run 1 opt s .state ≡ t
 unfolding run
-run-one sw s t e = ap (λ (r : Ended). r .state) (run-due 0 sw s t e) ∙ stays (next sw t)
+run-one opt s t e = ap (λ (r : Ended). r .state) (run-due 0 opt s t e) ∙ stays (next opt t)
   where
     stays : (x : Next) → onward x t (λ u. record { state = t; complete = false }) .state ≡ t
     stays over = refl
@@ -68,30 +70,25 @@ abbrev pub nothingDue : Next → Bool
 nothingDue over = true
 nothingDue (due t) = false
 
-pub complete-over : (b sw : ℕ) (s : State) → run b sw s .complete ≡ nothingDue (next sw (run b sw s .state))
+pub complete-over : (b : ℕ) (opt : Options) (s : State) → run b opt s .complete ≡ nothingDue (next opt (run b opt s .state))
 unfolding run
-complete-over zero sw s = end (next sw s) refl
+complete-over zero opt s = end (next opt s) refl
   where
-    end : (x : Next) → next sw s ≡ x → onward x s (λ t. record { state = s; complete = false }) .complete ≡ nothingDue (next sw (onward x s (λ t. record { state = s; complete = false }) .state))
+    end : (x : Next) → next opt s ≡ x → onward x s (λ t. record { state = s; complete = false }) .complete ≡ nothingDue (next opt (onward x s (λ t. record { state = s; complete = false }) .state))
     end over e = sym (ap nothingDue e)
     end (due t) e = sym (ap nothingDue e)
-complete-over (suc b) sw s = more (next sw s) refl (complete-over b sw)
+complete-over (suc b) opt s = more (next opt s) refl (complete-over b opt)
   where
-    more : (x : Next) → next sw s ≡ x → ((t : State) → run b sw t .complete ≡ nothingDue (next sw (run b sw t .state)))
-        → onward x s (λ t. run b sw t) .complete ≡ nothingDue (next sw (onward x s (λ t. run b sw t) .state))
+    more : (x : Next) → next opt s ≡ x → ((t : State) → run b opt t .complete ≡ nothingDue (next opt (run b opt t .state)))
+        → onward x s (λ t. run b opt t) .complete ≡ nothingDue (next opt (onward x s (λ t. run b opt t) .state))
     more over e r = sym (ap nothingDue e)
     more (due t) e r = r t
-
--- a thing due uses at most one unit
-pub units-next : (sw : ℕ) (s t : State) → next sw s ≡ due t → units t ≤ units s + 1
-unfolding Used
-units-next sw s t e = subst (λ (u : State). units u ≤ units s + 1) (run-one sw s t e) (run-used 1 sw s .0)
 
 -- "Units used are reported": at most the budget, and all of it where the run is cut short
 pub ended-units : (o : Objective) → units (ended o .state) ≤ o .budget
 unfolding Used ended begin
-ended-units o = omega (arith, run-used (o .budget) (o .switches) (begin (o .switches) (start o)) .0)
+ended-units o = omega (arith, run-used (o .budget) (asked o) (begin (asked o) (start o)) .0)
 
 pub ended-cut : (o : Objective) → ended o .complete ≡ false → units (ended o .state) ≡ o .budget
 unfolding Used ended begin
-ended-cut o h = omega (arith, run-used (o .budget) (o .switches) (begin (o .switches) (start o)) .1 h)
+ended-cut o h = omega (arith, run-used (o .budget) (asked o) (begin (asked o) (start o)) .1 h)

@@ -11,13 +11,13 @@ use Rattle.sound_laws.specs.Sound.{Sound}
 -- the counts, against the steps and the units
 pub record Counted (s : State) : Type 0 where
   -- a step for each decision eliminated, contracted or in a block
-  pub steps : s .counted .eliminated + s .counted .contracted + s .counted .inBlocks ≡ length (s .steps)
+  pub steps : s .counted .eliminated + s .counted .contracted + s .counted .«in_blocks» ≡ length (s .steps)
   pub three : s .counted .three ≤ s .counted .eliminated
   pub weakly : s .counted .weakly ≤ s .counted .contracted
   -- a take does one of these, or nothing
   pub takes : s .counted .eliminated + s .counted .contracted + s .counted .skipped ≤ s .takes
   -- "2 to 8 members"
-  pub blocks : 2 * s .blocks ≤ s .counted .inBlocks
+  pub blocks : 2 * s .blocks ≤ s .counted .«in_blocks»
 
 -- a state of a run that began at g
 pub record InOrder (g : Graph) (s : State) : Type 0 where
@@ -38,6 +38,6 @@ pub record Room (s : State) : Type 0 where
   pub three : s .counted .three ≤ 64
   pub contracted : s .counted .contracted ≤ 64
   pub weakly : s .counted .weakly ≤ 64
-  pub inBlocks : s .counted .inBlocks ≤ 64
+  pub inBlocks : s .counted .«in_blocks» ≤ 64
   pub blocks : s .blocks ≤ 32
   pub skipped : s .counted .skipped ≤ s .takes

@@ -9,6 +9,8 @@ use Rattle.whole.specs.Words.{oneIf}
 use Rattle.whole.specs.Pigeon.{Apart, pigeon}
 use Rattle.whole.specs.Members.{apart-tail, apart-wider}
 use Rattle.whole.specs.Tests.{at-most-one}
+use Rattle.rules.specs.Options.{asked}
+use Rattle.rules.specs.declared.Options.{Options}
 use Rattle.rules.specs.Objective.{Objective}
 use Rattle.rules.specs.Graph.{Graph, neighbours}
 use Rattle.rules.specs.Fixing.{start}
@@ -17,7 +19,9 @@ use Rattle.rules.specs.Eliminate.{Step, stepOf, eliminate}
 use Rattle.rules.specs.DegreeThree.{eliminate3}
 use Rattle.rules.specs.DominantEdge.{weak, contract, contractStep}
 use Rattle.rules.specs.SmallBlock.{eliminateBlock, blockSteps}
-use Rattle.rules.specs.Run.{Tally, tally, plus, State, waiting, Way, inactive, low, into, three, failed, idle, way, join, reduced, skipped, go, takeFront, blocked, due, next, run, begin, ended}
+use Rattle.rules.specs.Run.{State, waiting, Way, inactive, low, into, three, failed, idle, way, join, reduced, skipped, go, takeFront, blocked, due, next, run, begin, ended}
+use Rattle.rules.specs.Counts.{plus, oneEliminated, oneThree, oneContracted}
+use Rattle.rules.specs.declared.Tally.{Tally}
 use Rattle.cost_laws.specs.Growth.{in-nbrs}
 use Rattle.cost_laws.specs.Stands.{Fine}
 use Rattle.cost_laws.specs.Found.{found-block}
@@ -39,12 +43,12 @@ one-more steps s = length-append steps (s ∷ [])
 -- what a reduction of one decision counts
 record One (c : Tally) : Type 0 where
   step : c .eliminated + c .contracted ≡ 1
-  others : c .skipped + c .inBlocks ≡ 0
+  others : c .skipped + c .«in_blocks» ≡ 0
   three : c .three ≤ c .eliminated
   weakly : c .weakly ≤ c .contracted
 
-module _ (sw i : ℕ) (q : List ℕ) (s : State) (k : Counted s) where
-  reduced-counted : (g : Graph) (step : Step) (c : Tally) → One c → Counted (reduced sw (takeFront q s) i g step c)
+module _ (opt : Options) (i : ℕ) (q : List ℕ) (s : State) (k : Counted s) where
+  reduced-counted : (g : Graph) (step : Step) (c : Tally) → One c → Counted (reduced opt (takeFront q s) i g step c)
   unfolding reduced takeFront plus
   reduced-counted g step c o = record {
     steps = omega (arith, k .steps, o .step, o .others, one-more (s .steps) step);
@@ -58,14 +62,14 @@ module _ (sw i : ℕ) (q : List ℕ) (s : State) (k : Counted s) where
   unfolding takeFront
   passed-counted = record { steps = k .steps; three = k .three; weakly = k .weakly; takes = omega (arith, k .takes); blocks = k .blocks }
 
-  take-counted : (w : Way) → Counted (go w sw i (takeFront q s))
+  take-counted : (w : Way) → Counted (go w opt i (takeFront q s))
   unfolding go skipped takeFront plus
   take-counted inactive = passed-counted
-  take-counted low = reduced-counted (eliminate i (s .graph)) (stepOf (s .graph) i) (tally 1 0 0 0 0 0) (record { step = refl; others = refl; three = omega arith; weakly = omega arith })
+  take-counted low = reduced-counted (eliminate i (s .graph)) (stepOf (s .graph) i) oneEliminated (record { step = refl; others = refl; three = omega arith; weakly = omega arith })
   take-counted (into j) =
-      reduced-counted (contract i j (s .graph)) (contractStep i j (s .graph)) (tally 0 0 0 1 (oneIf (weak (s .graph) i j)) 0)
+      reduced-counted (contract i j (s .graph)) (contractStep i j (s .graph)) (oneContracted (weak (s .graph) i j))
       (record { step = refl; others = refl; three = omega arith; weakly = at-most-one (weak (s .graph) i j) })
-  take-counted three = reduced-counted (eliminate3 i (s .graph)) (stepOf (s .graph) i) (tally 1 1 0 0 0 0) (record { step = refl; others = refl; three = omega arith; weakly = omega arith })
+  take-counted three = reduced-counted (eliminate3 i (s .graph)) (stepOf (s .graph) i) oneThree (record { step = refl; others = refl; three = omega arith; weakly = omega arith })
   take-counted failed = record {
     steps = omega (arith, k .steps);
     three = omega (arith, k .three);
@@ -75,9 +79,9 @@ module _ (sw i : ℕ) (q : List ℕ) (s : State) (k : Counted s) where
   }
   take-counted idle = passed-counted
 
-block-counted : (sw : ℕ) (b : List ℕ) (s : State) → 2 ≤ length b → Counted s → Counted (blocked sw b s)
+block-counted : (opt : Options) (b : List ℕ) (s : State) → 2 ≤ length b → Counted s → Counted (blocked opt b s)
 unfolding blocked plus
-block-counted sw b s two c = record {
+block-counted opt b s two c = record {
   steps = omega (arith, c .steps, length-append (s .steps) (blockSteps (s .graph) b 0 b), block-steps-length (s .graph) b 0 b);
   three = omega (arith, c .three);
   weakly = omega (arith, c .weakly);
@@ -86,11 +90,11 @@ block-counted sw b s two c = record {
 }
 
 -- ---- the queue
-module _ {n : ℕ} (sw i : ℕ) (q : List ℕ) (s : State) (same : s .graph .n ≡ n) (a : Apart n q) where
-  joined : (g : Graph) → Apart n (join sw g (neighbours (s .graph) i) q)
-  joined g = join-apart sw g (neighbours (s .graph) i) q (λ k m. subst (λ (l : ℕ). k < l) same (in-nbrs (s .graph) i k m .0)) a
+module _ {n : ℕ} (opt : Options) (i : ℕ) (q : List ℕ) (s : State) (same : s .graph .n ≡ n) (a : Apart n q) where
+  joined : (g : Graph) → Apart n (join opt g (neighbours (s .graph) i) q)
+  joined g = join-apart opt g (neighbours (s .graph) i) q (λ k m. subst (λ (l : ℕ). k < l) same (in-nbrs (s .graph) i k m .0)) a
 
-  take-queue : (w : Way) → Apart n (go w sw i (takeFront q s) .queue)
+  take-queue : (w : Way) → Apart n (go w opt i (takeFront q s) .queue)
   unfolding go reduced skipped takeFront
   take-queue inactive = a
   take-queue low = joined (eliminate i (s .graph))
@@ -101,37 +105,37 @@ module _ {n : ℕ} (sw i : ℕ) (q : List ℕ) (s : State) (same : s .graph .n �
 
 -- ---- the state
 module _ (g : Graph) where
-  pub begin-in-order : (sw : ℕ) → Fine g → InOrder g (begin sw g)
+  pub begin-in-order : (opt : Options) → Fine g → InOrder g (begin opt g)
   unfolding begin
-  begin-in-order sw f = record {
-    sound = begin-sound g sw f;
-    queue = waiting-apart sw g;
+  begin-in-order opt f = record {
+    sound = begin-sound g opt f;
+    queue = waiting-apart opt g;
     counted = record { steps = refl; three = omega arith; weakly = omega arith; takes = omega arith; blocks = omega arith };
   }
 
-  next-sound : (sw : ℕ) (s t : State) → next sw s ≡ due t → Sound g (s .steps) (s .graph) → Sound g (t .steps) (t .graph)
-  next-sound sw s t e r = subst (λ (u : State). Sound g (u .steps) (u .graph)) (run-one sw s t e) (run-sound g 1 sw s r)
+  next-sound : (opt : Options) (s t : State) → next opt s ≡ due t → Sound g (s .steps) (s .graph) → Sound g (t .steps) (t .graph)
+  next-sound opt s t e r = subst (λ (u : State). Sound g (u .steps) (u .graph)) (run-one opt s t e) (run-sound g 1 opt s r)
 
   -- everything due keeps a state in order
-  pub next-in-order : (sw : ℕ) (s t : State) → next sw s ≡ due t → InOrder g s → InOrder g t
+  pub next-in-order : (opt : Options) (s t : State) → next opt s ≡ due t → InOrder g s → InOrder g t
   unfolding blocked
-  next-in-order sw s t e o = kept t (next-due sw s t e) (next-sound sw s t e (o .sound))
+  next-in-order opt s t e o = kept t (next-due opt s t e) (next-sound opt s t e (o .sound))
     where
-      kept : (t : State) → Due sw s t → Sound g (t .steps) (t .graph) → InOrder g t
+      kept : (t : State) → Due opt s t → Sound g (t .steps) (t .graph) → InOrder g t
       kept t (take {i} {q} h) r = record {
         sound = r;
-        queue = take-queue sw i q s (o .sound .stands .size) (apart-tail (subst (Apart (g .n)) h (o .queue))) (way sw (s .graph) i);
-        counted = take-counted sw i q s (o .counted) (way sw (s .graph) i);
+        queue = take-queue opt i q s (o .sound .stands .size) (apart-tail (subst (Apart (g .n)) h (o .queue))) (way opt (s .graph) i);
+        counted = take-counted opt i q s (o .counted) (way opt (s .graph) i);
       }
       kept t (block {b} h on f) r = record {
         sound = r;
-        queue = subst (λ (n : ℕ). Apart n (waiting sw (eliminateBlock b (s .graph)))) (r .stands .size) (waiting-apart sw (eliminateBlock b (s .graph)));
-        counted = block-counted sw b s (found-block (s .graph) b (o .sound .stands .fine .shaped) f .two) (o .counted);
+        queue = subst (λ (n : ℕ). Apart n (waiting opt (eliminateBlock b (s .graph)))) (r .stands .size) (waiting-apart opt (eliminateBlock b (s .graph)));
+        counted = block-counted opt b s (found-block (s .graph) b (o .sound .stands .fine .shaped) f .two) (o .counted);
       }
 
   -- so every state of a run is in order, at every budget
-  pub run-in-order : (b sw : ℕ) → Fine g → InOrder g (run b sw (begin sw g) .state)
-  run-in-order b sw f = run-keeps sw (InOrder g) (next-in-order sw) b (begin sw g) (begin-in-order sw f)
+  pub run-in-order : (b : ℕ) (opt : Options) → Fine g → InOrder g (run b opt (begin opt g) .state)
+  run-in-order b opt f = run-keeps opt (InOrder g) (next-in-order opt) b (begin opt g) (begin-in-order opt f)
 
   -- and has room
   pub in-order-steps : {s : State} → InOrder g s → length (s .steps) ≤ g .n
@@ -163,7 +167,7 @@ in-order-within o fit h = reduced-within o fit (h .sound)
 
 pub ended-in-order : (o : Objective) → Fit o → InOrder (start o) (ended o .state)
 unfolding ended
-ended-in-order o fit = run-in-order (start o) (o .budget) (o .switches) (start-stands o fit .fine)
+ended-in-order o fit = run-in-order (start o) (o .budget) (asked o) (start-stands o fit .fine)
 
 pub ended-room : (o : Objective) → Fit o → Room (ended o .state)
 ended-room o fit = in-order-room (start o) (ended-in-order o fit)

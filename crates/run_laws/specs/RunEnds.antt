@@ -6,6 +6,8 @@ use mathlib.Core.List.{List, _∷_}
 use Prim.Native.Nat.{ℕ, zero, suc, _+_, _*_, _-_, _<_, _≤_}
 use native.Mathlib.Omega.{arith}
 use lib.ListN.{length, length-append}
+use Rattle.rules.specs.Options.{asked}
+use Rattle.rules.specs.declared.Options.{Options}
 use Rattle.rules.specs.Objective.{Objective}
 use Rattle.rules.specs.Graph.{Graph}
 use Rattle.rules.specs.Fixing.{start}
@@ -16,11 +18,11 @@ use Rattle.cost_laws.specs.Stands.{Fine}
 use Rattle.cost_laws.specs.Found.{found-block}
 use Rattle.accepted_laws.specs.Accept.{Fit}
 use Rattle.sound_laws.specs.SoundStart.{start-stands}
-use Rattle.run_laws.specs.DueLaws.{Due, take, block, next-due, units-next}
+use Rattle.run_laws.specs.DueLaws.{Due, take, block, next-due}
 use Rattle.run_laws.specs.StepLaws.{block-steps-length}
 use Rattle.run_laws.specs.InOrder.{InOrder}
 use Rattle.run_laws.specs.InOrderLaws.{begin-in-order, next-in-order, in-order-steps, in-order-room}
-use Rattle.cost_laws.specs.RunLaws.{run-keeps}
+use Rattle.cost_laws.specs.RunLaws.{next-unit, run-keeps}
 
 -- what is left to do: each waiting decision is a take, and each decision that may still leave may fill the queue once more
 abbrev pub left : ℕ → State → ℕ
@@ -31,27 +33,27 @@ data Taking (q : List ℕ) (s t : State) : Type 0 where
   passes : t .queue ≡ q → t .steps ≡ s .steps → Taking q s t
   reduces : length (t .steps) ≡ length (s .steps) + 1 → Taking q s t
 
-taking : (w : Way) (sw i : ℕ) (q : List ℕ) (s : State) → Taking q s (go w sw i (takeFront q s))
+taking : (w : Way) (opt : Options) (i : ℕ) (q : List ℕ) (s : State) → Taking q s (go w opt i (takeFront q s))
 unfolding go reduced skipped takeFront
-taking inactive sw i q s = passes refl refl
-taking low sw i q s = reduces (length-append (s .steps) _)
-taking (into j) sw i q s = reduces (length-append (s .steps) _)
-taking three sw i q s = reduces (length-append (s .steps) _)
-taking failed sw i q s = passes refl refl
-taking idle sw i q s = passes refl refl
+taking inactive opt i q s = passes refl refl
+taking low opt i q s = reduces (length-append (s .steps) _)
+taking (into j) opt i q s = reduces (length-append (s .steps) _)
+taking three opt i q s = reduces (length-append (s .steps) _)
+taking failed opt i q s = passes refl refl
+taking idle opt i q s = passes refl refl
 
 module _ (g : Graph) where
   -- everything due leaves less to do
-  next-less : (sw : ℕ) (s t : State) → next sw s ≡ due t → InOrder g s → left (g .n) t < left (g .n) s
+  next-less : (opt : Options) (s t : State) → next opt s ≡ due t → InOrder g s → left (g .n) t < left (g .n) s
   unfolding blocked
-  next-less sw s t e o = less t (next-due sw s t e) (next-in-order g sw s t e o)
+  next-less opt s t e o = less t (next-due opt s t e) (next-in-order g opt s t e o)
     where
       taken : (i : ℕ) (q : List ℕ) (t : State) → s .queue ≡ i ∷ q → InOrder g t → Taking q s t → left (g .n) t < left (g .n) s
       taken i q t h p (passes a b) = omega (arith, ap length h, ap length a, ap length b)
       taken i q t h p (reduces d) = omega (arith, ap length h, in-order-steps g p, in-order-room g p .queue)
 
-      less : (t : State) → Due sw s t → InOrder g t → left (g .n) t < left (g .n) s
-      less t (take {i} {q} h) p = taken i q t h p (taking (way sw (s .graph) i) sw i q s)
+      less : (t : State) → Due opt s t → InOrder g t → left (g .n) t < left (g .n) s
+      less t (take {i} {q} h) p = taken i q t h p (taking (way opt (s .graph) i) opt i q s)
       less t (block {b} h on f) p =
           omega (
             arith,
@@ -63,41 +65,41 @@ module _ (g : Graph) where
           )
 
   -- with a unit for each thing left to do, the run is complete
-  pub enough-completes : (b sw : ℕ) (s : State) → InOrder g s → left (g .n) s ≤ b → run b sw s .complete ≡ true
+  pub enough-completes : (b : ℕ) (opt : Options) (s : State) → InOrder g s → left (g .n) s ≤ b → run b opt s .complete ≡ true
   unfolding run
-  enough-completes zero sw s o h = end (next sw s) refl
+  enough-completes zero opt s o h = end (next opt s) refl
     where
-      end : (x : Next) → next sw s ≡ x → onward x s (λ t. record { state = s; complete = false }) .complete ≡ true
+      end : (x : Next) → next opt s ≡ x → onward x s (λ t. record { state = s; complete = false }) .complete ≡ true
       end over e = refl
-      end (due t) e = absurd (omega (arith, next-less sw s t e o))
-  enough-completes (suc b) sw s o h = more (next sw s) refl (enough-completes b sw)
+      end (due t) e = absurd (omega (arith, next-less opt s t e o))
+  enough-completes (suc b) opt s o h = more (next opt s) refl (enough-completes b opt)
     where
-      more : (x : Next) → next sw s ≡ x → ((t : State) → InOrder g t → left (g .n) t ≤ b → run b sw t .complete ≡ true) → onward x s (λ t. run b sw t) .complete ≡ true
+      more : (x : Next) → next opt s ≡ x → ((t : State) → InOrder g t → left (g .n) t ≤ b → run b opt t .complete ≡ true) → onward x s (λ t. run b opt t) .complete ≡ true
       more over e r = refl
-      more (due t) e r = r t (next-in-order g sw s t e o) (omega (arith, next-less sw s t e o))
+      more (due t) e r = r t (next-in-order g opt s t e o) (omega (arith, next-less opt s t e o))
 
-  begin-left : (sw : ℕ) → Fine g → left (g .n) (begin sw g) ≤ 4224
+  begin-left : (opt : Options) → Fine g → left (g .n) (begin opt g) ≤ 4224
   unfolding begin
-  begin-left sw f = omega (arith, in-order-room g (begin-in-order g sw f) .queue, f .shaped .few)
+  begin-left opt f = omega (arith, in-order-room g (begin-in-order g opt f) .queue, f .shaped .few)
 
   -- no run uses more, at any budget
-  pub run-units : (b sw : ℕ) → Fine g → units (run b sw (begin sw g) .state) ≤ 4224
+  pub run-units : (b : ℕ) (opt : Options) → Fine g → units (run b opt (begin opt g) .state) ≤ 4224
   unfolding begin
-  run-units b sw f = omega (arith, kept .1)
+  run-units b opt f = omega (arith, kept .1)
     where
-      kept : InOrder g (run b sw (begin sw g) .state) × (units (run b sw (begin sw g) .state) + left (g .n) (run b sw (begin sw g) .state) ≤ 4224)
-      kept = run-keeps sw (λ s. InOrder g s × (units s + left (g .n) s ≤ 4224))
-          (λ s t e p. (next-in-order g sw s t e (p .0), omega (arith, p .1, units-next sw s t e, next-less sw s t e (p .0))))
-          b (begin sw g) (begin-in-order g sw f, omega (arith, begin-left sw f))
+      kept : InOrder g (run b opt (begin opt g) .state) × (units (run b opt (begin opt g) .state) + left (g .n) (run b opt (begin opt g) .state) ≤ 4224)
+      kept = run-keeps opt (λ s. InOrder g s × (units s + left (g .n) s ≤ 4224))
+          (λ s t e p. (next-in-order g opt s t e (p .0), omega (arith, p .1, next-unit opt s t e, next-less opt s t e (p .0))))
+          b (begin opt g) (begin-in-order g opt f, omega (arith, begin-left opt f))
 
 -- of an objective that is not refused: "One unit per take and one per block eliminated."
 module _ (o : Objective) (fit : Fit o) where
   pub ended-few : units (ended o .state) ≤ 4224
   unfolding ended
-  ended-few = run-units (start o) (o .budget) (o .switches) (start-stands o fit .fine)
+  ended-few = run-units (start o) (o .budget) (asked o) (start-stands o fit .fine)
 
   pub ended-complete : 4224 ≤ o .budget → ended o .complete ≡ true
   unfolding ended
   ended-complete h =
       let f : Fine (start o) = start-stands o fit .fine in
-      enough-completes (start o) (o .budget) (o .switches) (begin (o .switches) (start o)) (begin-in-order (start o) (o .switches) f) (omega (arith, begin-left (start o) (o .switches) f))
+      enough-completes (start o) (o .budget) (asked o) (begin (asked o) (start o)) (begin-in-order (start o) (asked o) f) (omega (arith, begin-left (start o) (asked o) f))

@@ -6,6 +6,7 @@ use mathlib.Core.List.{List}
 use Prim.Native.Nat.{ℕ, _≤_, _<_}
 use native.Mathlib.Omega.{arith}
 use Rattle.whole.specs.Tests.{refuse}
+use Rattle.rules.specs.Options.{asked}
 use Rattle.rules.specs.Objective.{Objective}
 use Rattle.rules.specs.Graph.{Graph, active}
 use Rattle.rules.specs.Fixing.{start}
@@ -38,9 +39,9 @@ module _ (o : Objective) (fit : Fit o) where
   reduced-within {g = g} s = fine-within g (s .stands .fine) (taken-narrow (sound-taken s) (start-narrow o fit))
 
   -- "at the end of every reduction": each state of the run is its state at some budget
-  pub run-within : (b : ℕ) → Within (run b (o .switches) (begin (o .switches) (start o)) .state .graph)
+  pub run-within : (b : ℕ) → Within (run b (asked o) (begin (asked o) (start o)) .state .graph)
   run-within b =
-      reduced-within (run-sound (start o) b (o .switches) (begin (o .switches) (start o)) (begin-sound (start o) (o .switches) (start-stands o fit .fine)))
+      reduced-within (run-sound (start o) b (asked o) (begin (asked o) (start o)) (begin-sound (start o) (asked o) (start-stands o fit .fine)))
 
   pub ended-within : Within (ended o .state .graph)
   ended-within = reduced-within (ended-sound o fit)

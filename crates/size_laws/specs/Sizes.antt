@@ -8,7 +8,10 @@ use native.Mathlib.Omega.{arith}
 use lib.ListN.{length, getD}
 use lib.IntN.{ℤ, pos, negℤ, _+ℤ_, _-ℤ_}
 use Rattle.whole.specs.Words.{odd, bit, chosen, below0, above0}
+use mir.Syntax.{w64}
+use mir.Val.{SFits}
 use Rattle.whole.specs.Parts.{∣_∣}
+use Rattle.whole.specs.Fits.{fit}
 use Rattle.whole.specs.Ints.{ints}
 use Rattle.whole.specs.Cmp.{below0-abs, above0-abs}
 use Rattle.rules.specs.DegreeThree.{pass, moebius}
@@ -24,6 +27,15 @@ sub-size u v h k = simp ints (omega arith)
 
 pub neg-size : {b : ℕ} (v : ℤ) → ∣ v ∣ ≤ b → ∣ negℤ v ∣ ≤ b
 neg-size v h = simp ints (omega arith)
+
+-- where a test says which: u ∓ v, and u ± v
+pub less-size : {b c : ℕ} (t : Bool) (u v : ℤ) → ∣ u ∣ ≤ b → ∣ v ∣ ≤ c → ∣ cond t (u -ℤ v) (u +ℤ v) ∣ ≤ b + c
+less-size true u v h k = sub-size u v h k
+less-size false u v h k = add-size u v h k
+
+pub more-size : {b c : ℕ} (t : Bool) (u v : ℤ) → ∣ u ∣ ≤ b → ∣ v ∣ ≤ c → ∣ cond t (u +ℤ v) (u -ℤ v) ∣ ≤ b + c
+more-size true u v h k = add-size u v h k
+more-size false u v h k = sub-size u v h k
 
 -- what is there so far, where it and the rest come to t
 pub part-size : {b c : ℕ} (s r t : ℤ) → s +ℤ r ≡ t → ∣ t ∣ ≤ b → ∣ r ∣ ≤ c → ∣ s ∣ ≤ b + c
@@ -73,6 +85,22 @@ module _ (a : ℤ) (ws : List ℤ) (h : ∣ a ∣ ≤ 1099511627776) (e : Small 
 -- ---- a reduction's update: each place gains once, so what it has is still what it had before
 pub gain-size : {b c : ℕ} (before now : List ℤ) (k : ℕ) (v : ℤ) → ∣ getD before k (pos 0) ∣ ≤ b → getD now k (pos 0) ≡ getD before k (pos 0) → ∣ v ∣ ≤ c → ∣ getD now k (pos 0) +ℤ v ∣ ≤ b + c
 gain-size before now k v s e h = add-size (getD now k (pos 0)) v (omega (arith, ap ∣_∣ e, s)) h
+
+pub gain-fits : {b c : ℕ} (before now : List ℤ) (k : ℕ) (v : ℤ) → ∣ getD before k (pos 0) ∣ ≤ b → getD now k (pos 0) ≡ getD before k (pos 0) → ∣ v ∣ ≤ c → b + c ≤ 2 ^ 60 → SFits w64 (getD now k (pos 0) +ℤ v)
+gain-fits before now k v s e h i = fit (getD now k (pos 0) +ℤ v) (omega (arith, gain-size before now k v s e h))
+
+-- ---- the sums that an update makes of a table t, each entry of which is at most b
+pub record TableSums (b : ℕ) (t : ℕ → ℤ) : Type 0 where
+  -- "neighbour k gains T(1 shifted by k) − T(0)"
+  pub near : (m k : ℕ) → ∣ t m -ℤ t k ∣ ≤ b + b
+  -- "their edge gains T(3) − T(1) − T(2) + T(0)", and before T(0) is added
+  pub part : ∣ t 3 -ℤ t 1 -ℤ t 2 ∣ ≤ b + b + b
+  pub pair : ∣ t 3 -ℤ t 1 -ℤ t 2 +ℤ t 0 ∣ ≤ b + b + b + b
+
+pub table-size : {b : ℕ} (t : ℕ → ℤ) → ((m : ℕ) → ∣ t m ∣ ≤ b) → TableSums b t
+table-size {b} t h =
+    let part : ∣ t 3 -ℤ t 1 -ℤ t 2 ∣ ≤ b + b + b = sub-size (t 3 -ℤ t 1) (t 2) (sub-size (t 3) (t 1) (h 3) (h 1)) (h 2) in
+    record { near = λ m k. sub-size (t m) (t k) (h m) (h k); part = part; pair = add-size (t 3 -ℤ t 1 -ℤ t 2) (t 0) part (h 0) }
 
 -- ---- the Möbius transform: each bit's pass at most doubles
 pub pass-size : {b : ℕ} (k : ℕ) (t : ℕ → ℤ) → ((m : ℕ) → ∣ t m ∣ ≤ b) → (m : ℕ) → ∣ pass k t m ∣ ≤ b + b

@@ -6,17 +6,20 @@ use mathlib.Core.List.{List, [], _∷_}
 use Prim.Native.Nat.{ℕ, _+_, _*_, _/_, _≤_}
 use native.Mathlib.Omega.{arith}
 use lib.ListN.{length, length-map}
-use lib.IntN.{ℤ, pos, _+ℤ_}
+use lib.IntN.{ℤ, pos, _+ℤ_, +ℤ-idr}
 use Rattle.whole.specs.Words.{odd, tab, chosen}
 use Rattle.whole.specs.Parts.{∣_∣}
 use Rattle.whole.specs.Cmp.{below0-abs}
+use Rattle.whole.specs.Pigeon.{pigeon}
 use Rattle.rules.specs.Graph.{Graph, lin, edge, neighbours, degree, row}
 use Rattle.rules.specs.Eliminate.{delta, tee}
-use Rattle.rules.specs.DegreeThree.{moebius}
-use Rattle.rules.specs.SmallBlock.{inner}
+use Rattle.rules.specs.DegreeThree.{pass, moebius}
+use Rattle.rules.specs.DominantEdge.{negatives, positives, lo, hi, positive, upper, lower}
+use Rattle.rules.specs.SmallBlock.{boundary, inner, bestMask, blockTable}
 use Rattle.rules.specs.Size.{Within}
 use Rattle.accepted_laws.specs.Small.{Small, small-map, small-tab}
-use Rattle.size_laws.specs.Sizes.{add-size, part-size, when-size, chosen-size, delta-size, moebius-size}
+use Rattle.cost_laws.specs.Growth.{neighbours-apart}
+use Rattle.size_laws.specs.Sizes.{add-size, less-size, more-size, part-size, when-size, chosen-size, delta-size, lo-size, hi-size, TableSums, table-size, pass-size, moebius-size}
 
 module _ (g : Graph) (w : Within g) where
   -- i's edges, to whatever decisions
@@ -43,9 +46,40 @@ module _ (g : Graph) (w : Within g) where
     pub tees-three : Small 7696581394432 (tab (tee g i) 8)
     tees-three = small-tab (tee g i) 8 tee-three
 
-    -- of the Möbius transform: 56·2^40
+    -- 14·2^40 for what a neighbour gains, 28·2^40 for what their edge gains
+    pub gains-three : TableSums 7696581394432 (tee g i)
+    gains-three = table-size (tee g i) tee-three
+
+    -- of the Möbius transform: 14·2^40 after the first pass, 28·2^40 after the second, 56·2^40 at the end
+    pub first-pass : (m : ℕ) → ∣ pass 0 (tee g i) m ∣ ≤ 15393162788864
+    first-pass = pass-size 0 (tee g i) tee-three
+
+    pub second-pass : (m : ℕ) → ∣ pass 1 (pass 0 (tee g i)) m ∣ ≤ 30786325577728
+    second-pass = pass-size 1 (pass 0 (tee g i)) first-pass
+
     pub entries-three : Small 61572651155456 (tab (moebius (tee g i)) 8)
     entries-three = small-tab (moebius (tee g i)) 8 (moebius-size (tee g i) tee-three)
+
+  -- ---- the dominant neighbour, at most 64 decisions
+  module _ (short : g .n ≤ 64) where
+    few-edges : (i : ℕ) → length (row g i (neighbours g i)) ≤ 64
+    few-edges i = omega (arith, length-map (neighbours g i) (edge g i), pigeon (g .n) (neighbours-apart g i))
+
+    -- 257·2^40
+    pub low-size : (i : ℕ) → ∣ lo g i ∣ ≤ 282574488338432
+    unfolding negatives
+    low-size i = lo-size (lin g i) (row g i (neighbours g i)) (w .linear i) (row-each i (neighbours g i)) [] (lo g i) (row-each i []) (few-edges i) (omega arith) (+ℤ-idr (lo g i))
+
+    pub high-size : (i : ℕ) → ∣ hi g i ∣ ≤ 282574488338432
+    unfolding positives
+    high-size i = hi-size (lin g i) (row g i (neighbours g i)) (w .linear i) (row-each i (neighbours g i)) [] (hi g i) (row-each i []) (few-edges i) (omega arith) (+ℤ-idr (hi g i))
+
+    -- "hi − w ... and lo + w ... Negative: hi + w ... and lo − w": 259·2^40
+    pub upper-size : (i j : ℕ) → ∣ upper g i j ∣ ≤ 284773511593984
+    upper-size i j = less-size (positive g i j) (hi g i) (edge g i j) (high-size i) (w .edges (64 * i + j))
+
+    pub lower-size : (i j : ℕ) → ∣ lower g i j ∣ ≤ 284773511593984
+    lower-size i j = more-size (positive g i j) (lo g i) (edge g i j) (low-size i) (w .edges (64 * i + j))
 
   -- ---- a contraction: what j's weight gains where x of i becomes x of j, 3·2^40
   pub taken-size : (i j : ℕ) → ∣ lin g i +ℤ edge g i j ∣ ≤ 3298534883328
@@ -74,3 +108,7 @@ module _ (g : Graph) (w : Within g) where
   -- the cost so far, where the members ks are left
   pub inner-part : (out is ks : List ℕ) (f m r : ℕ) (s : ℤ) → length out ≤ 2 → length is ≤ 8 → length ks ≤ 8 → s +ℤ inner g out f ks r ≡ inner g out f is m → ∣ s ∣ ≤ 369435906932736
   inner-part out is ks f m r s ho hi hk e = part-size s (inner g out f ks r) (inner g out f is m) e (inner-size out is f m ho hi) (inner-size out ks f r ho hk)
+
+  -- and for the update from what the members cost at best: 336·2^40 for what a neighbour gains, 672·2^40 for what their edge gains
+  pub gains-block : (b : List ℕ) → length (boundary g b) ≤ 2 → length b ≤ 8 → TableSums 184717953466368 (blockTable g b)
+  gains-block b ho hi = table-size (blockTable g b) (λ f. inner-size (boundary g b) b f (bestMask g b f) ho hi)

@@ -6,15 +6,14 @@ use mathlib.Core.List.{List, [], _∷_}
 use mathlib.Core.Logic.{_≢_}
 use Prim.Native.Nat.{ℕ, _^_, _<_, _≤_}
 use lib.Dec.{eqb, ltb}
-use lib.Bits.{bitAnd, bitXor, and-lt, xor-lt}
 use lib.Count.{trailingZeros}
 use borrow.Author.Tests.{lt-ltb, le-ltb}
 use Rattle.whole.specs.Words.{bit, mem, those, some}
 use Rattle.rules.specs.SmallBlock.{component, besides, isCut}
 use Rattle.whole.specs.Members.{out-of-cons, in-head}
 use Rattle.cost_laws.specs.Growth.{Network, parted, free, cut-from-first}
-use Rattle.whole.specs.Masks.{these, bit-single, these-less, these-end, first-in, those-ext, turn}
-use Rattle.small_block.specs.Held.{nearBy, removedBy}
+use Rattle.whole.specs.Masks.{these, without, bit-single, these-less, these-end, first-in, those-ext, turn}
+use Rattle.small_block.specs.ByMasks.{nearBy, removedBy}
 
 -- the removed one: a number below 64, or none
 pub removed-is : (r : ℕ) → r < 64 → removedBy r ≡ r ∷ []
@@ -37,7 +36,7 @@ those-all p [] h = refl
 those-all p (x ∷ xs) h = ap₂ (λ (b : Bool) (ys : List ℕ). cond b (x ∷ ys) (those p xs)) (h x) (those-all p xs h)
 
 -- the neighbours but for the removed one, by masks
-pub less-removed : (a r s : ℕ) → r < 64 → s ≡ 2 ^ r → these (bitXor a (bitAnd a s)) ≡ those (λ u. not (mem u (removedBy r))) (these a)
+pub less-removed : (a r s : ℕ) → r < 64 → s ≡ 2 ^ r → these (without a s) ≡ those (λ u. not (mem u (removedBy r))) (these a)
 unfolding mem
 less-removed a r s l e = these-less a s ∙ those-ext (λ k. not (bit s k)) (λ u. not (mem u (removedBy r))) (these a)
     (λ k m. ap not (ap (λ (z : ℕ). bit z k) e ∙ bit-single r k ∙ sym (or-false (eqb k r)) ∙ ap (mem k) (sym (removed-is r l))))
@@ -45,9 +44,6 @@ less-removed a r s l e = these-less a s ∙ those-ext (λ k. not (bit s k)) (λ 
 pub all-stay : (a r : ℕ) → 64 ≤ r → these a ≡ those (λ u. not (mem u (removedBy r))) (these a)
 unfolding mem
 all-stay a r l = sym (those-all (λ u. not (mem u (removedBy r))) (these a) (λ k. ap (λ (xs : List ℕ). not (mem k xs)) (removed-none r l)))
-
-pub low-mask : (a s : ℕ) → a < 2 ^ 64 → s < 2 ^ 64 → bitXor a (bitAnd a s) < 2 ^ 64
-low-mask a s la ls = xor-lt 64 a (bitAnd a s) la (and-lt 64 a s la ls)
 
 module _ (masks : List ℕ) (removed c : ℕ) (net : Network 64 (nearBy masks)) (lc : c < 64) where
   -- the removed one is no cut

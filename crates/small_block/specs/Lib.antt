@@ -1,5 +1,6 @@
-pub mod Held
-pub mod Going
+pub mod ByMasks
+pub mod Explored
+pub mod Gathered
 pub mod Cutting
 pub mod Seeking
 pub mod Tables

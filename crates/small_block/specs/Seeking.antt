@@ -1,6 +1,6 @@
 -- The loops of the search by masks: what holds at each turn.
 -- Assumes nothing.
-use mathlib.Core.Path.{_≡_, sym, ap, ap₂, _∙_}
+use mathlib.Core.Path.{_≡_, refl, sym, ap, ap₂, _∙_}
 use mathlib.Core.Bool.{Bool, true, false, cond, _&&_, _||_}
 use mathlib.Core.List.{List, [], _∷_, _++_}
 use mathlib.Core.Logic.{_≢_}
@@ -11,13 +11,13 @@ use lib.Bits.{bitAnd, bitOr}
 use lib.Count.{trailingZeros}
 use lib.ListN.{take}
 use borrow.Author.Tests.{ne-eqb, eq-eqb, leb-true}
-use Rattle.whole.specs.Words.{bit, mem}
-use Rattle.rules.specs.SmallBlock.{component, isCut, none, members, small, orElse, among, overCuts, overRemoved, search}
+use Rattle.whole.specs.Words.{bit, mem, those}
+use Rattle.rules.specs.SmallBlock.{Block, component, isCut, none, members, small, orElse, among, overCuts, overRemoved, search}
 use Rattle.whole.specs.Tests.{clash, refuse, and-true, same-test, or-true, or-left, or-right}
 use Rattle.whole.specs.Members.{in-append, in-left, in-right}
 use Rattle.whole.specs.Masks.{these, bit-or, these-end, turn}
-use Rattle.small_block.specs.Held.{blockBy}
-use Rattle.small_block.specs.Going.{GrownAs}
+use Rattle.small_block.specs.ByMasks.{blockBy}
+use Rattle.small_block.specs.Explored.{GrownAs}
 
 pub no-block : (order : List ℕ) (count : ℕ) → count ≡ 0 → blockBy order count ≡ none
 no-block order count e = ap (λ (t : Bool). cond t none (members (take count order))) (eq-eqb count 0 e)
@@ -88,48 +88,45 @@ module _ {near : ℕ → List ℕ} {aside live : List ℕ} {rest seen : ℕ} (w 
                 (λ z. or-left (mem k (aside ++ component near aside (trailingZeros 64 rest))) z)
                 (λ z. or-right (mem k (w .past)) (in-right k aside (component near aside (trailingZeros 64 rest)) z)))
 
--- ---- over the cuts
-module _ (near : ℕ → List ℕ) (live removed : List ℕ) (rest : ℕ) where
-  pub cuts-none : rest ≡ 0 → none ≡ overCuts near live removed (these rest)
-  unfolding overCuts
-  cuts-none e = sym (ap (overCuts near live removed) (these-end rest e))
+-- ---- the first of some decisions for which there is a block
+unfoldable pub firstOf : (ℕ → Block) → List ℕ → Block
+firstOf f [] = none
+firstOf f (x ∷ xs) = orElse (f x) (firstOf f xs)
 
-  module _ (d : rest ≢ 0) (h : rest < 2 ^ 64) where
-    cuts-step : overCuts near live removed (these rest)
-        ≡ cond (isCut near removed (trailingZeros 64 rest))
-        (orElse (among near (trailingZeros 64 rest ∷ removed) (trailingZeros 64 rest ∷ removed) live) (overCuts near live removed (these (bitAnd rest (rest - 1)))))
-        (overCuts near live removed (these (bitAnd rest (rest - 1))))
-    unfolding overCuts
-    cuts-step = ap (overCuts near live removed) (turn rest d h .parts)
+module _ (near : ℕ → List ℕ) (live : List ℕ) where
+  abbrev pub atCut : List ℕ → ℕ → Block
+  atCut removed c = among near (c ∷ removed) (c ∷ removed) live
 
-    pub cuts-skip : isCut near removed (trailingZeros 64 rest) ≡ false → overCuts near live removed (these rest) ≡ overCuts near live removed (these (bitAnd rest (rest - 1)))
-    cuts-skip e = cuts-step ∙ rw e
+  pub over-cuts : (removed cs : List ℕ) → overCuts near live removed cs ≡ firstOf (atCut removed) (those (isCut near removed) cs)
+  unfolding overCuts firstOf those
+  over-cuts removed [] = refl
+  over-cuts removed (c ∷ cs) = go (isCut near removed c) (over-cuts removed cs)
+    where
+      go : (t : Bool) → overCuts near live removed cs ≡ firstOf (atCut removed) (those (isCut near removed) cs)
+          → cond t (orElse (atCut removed c) (overCuts near live removed cs)) (overCuts near live removed cs) ≡ firstOf (atCut removed) (cond t (c ∷ those (isCut near removed) cs) (those (isCut near removed) cs))
+      go true r = ap (orElse (atCut removed c)) r
+      go false r = r
 
-    module _ (e : isCut near removed (trailingZeros 64 rest) ≡ true) (order : List ℕ) (count : ℕ)
-        (is : blockBy order count ≡ among near (trailingZeros 64 rest ∷ removed) (trailingZeros 64 rest ∷ removed) live) where
-      pub cuts-found : count ≢ 0 → blockBy order count ≡ overCuts near live removed (these rest)
-      cuts-found z = a-block order count z ∙ sym (cuts-step ∙ rw (e, ← is, a-block order count z))
+  pub over-removed : (rs : List ℕ) → overRemoved near live rs ≡ firstOf (λ r. overCuts near live (r ∷ []) live) rs
+  unfolding overRemoved firstOf
+  over-removed [] = refl
+  over-removed (r ∷ rs) = ap (orElse (overCuts near live (r ∷ []) live)) (over-removed rs)
 
-      pub cuts-on : count ≡ 0 → overCuts near live removed (these rest) ≡ overCuts near live removed (these (bitAnd rest (rest - 1)))
-      cuts-on z = cuts-step ∙ rw (e, ← is, no-block order count z)
+module _ (f : ℕ → Block) (rest : ℕ) where
+  pub first-none : rest ≡ 0 → none ≡ firstOf f (these rest)
+  unfolding firstOf
+  first-none e = sym (ap (firstOf f) (these-end rest e))
 
--- ---- over the removed decisions
-module _ (near : ℕ → List ℕ) (live : List ℕ) (rest : ℕ) where
-  pub removed-over : rest ≡ 0 → none ≡ overRemoved near live (these rest)
-  unfolding overRemoved
-  removed-over e = sym (ap (overRemoved near live) (these-end rest e))
+  module _ (d : rest ≢ 0) (h : rest < 2 ^ 64) (order : List ℕ) (count : ℕ) (is : blockBy order count ≡ f (trailingZeros 64 rest)) where
+    first-step : firstOf f (these rest) ≡ orElse (f (trailingZeros 64 rest)) (firstOf f (these (bitAnd rest (rest - 1))))
+    unfolding firstOf
+    first-step = ap (firstOf f) (turn rest d h .parts)
 
-  module _ (d : rest ≢ 0) (h : rest < 2 ^ 64) where
-    removed-step : overRemoved near live (these rest) ≡ orElse (overCuts near live (trailingZeros 64 rest ∷ []) live) (overRemoved near live (these (bitAnd rest (rest - 1))))
-    unfolding overRemoved
-    removed-step = ap (overRemoved near live) (turn rest d h .parts)
+    pub first-found : count ≢ 0 → blockBy order count ≡ firstOf f (these rest)
+    first-found z = a-block order count z ∙ sym (first-step ∙ rw (← is, a-block order count z))
 
-    module _ (order : List ℕ) (count : ℕ) (is : blockBy order count ≡ overCuts near live (trailingZeros 64 rest ∷ []) live) where
-      pub removed-found : count ≢ 0 → blockBy order count ≡ overRemoved near live (these rest)
-      removed-found z = a-block order count z ∙ sym (removed-step ∙ rw (← is, a-block order count z))
-
-      pub removed-on : count ≡ 0 → overRemoved near live (these rest) ≡ overRemoved near live (these (bitAnd rest (rest - 1)))
-      removed-on z = removed-step ∙ rw (← is, no-block order count z)
+    pub first-on : count ≡ 0 → firstOf f (these rest) ≡ firstOf f (these (bitAnd rest (rest - 1)))
+    first-on z = first-step ∙ rw (← is, no-block order count z)
 
 -- ---- none removed first
 module _ (near : ℕ → List ℕ) (live order : List ℕ) (count : ℕ) (is : blockBy order count ≡ overCuts near live [] live) where
@@ -137,6 +134,6 @@ module _ (near : ℕ → List ℕ) (live order : List ℕ) (count : ℕ) (is : b
   unfolding search
   search-found z = a-block order count z ∙ sym (rw (← is, a-block order count z))
 
-  pub search-on : count ≡ 0 → search near live ≡ overRemoved near live live
+  pub search-on : count ≡ 0 → search near live ≡ firstOf (λ r. overCuts near live (r ∷ []) live) live
   unfolding search
-  search-on z = rw (← is, no-block order count z)
+  search-on z = rw (← is, no-block order count z) (over-removed near live live)

@@ -1,18 +1,20 @@
-// The search for a small block, by masks: bit j of near[i] is set where i and j are neighbours.
+// The search for a small block, by the masks of the graph: bit j of near[i] is set where i and j are neighbours.
 ghost use mathlib.Core.Path.{_≡_};
 ghost use mathlib.Core.Bool.{true, false, not, _&&_};
 ghost use lib.Dec.{leb, eqb};
-ghost use mathlib.Core.List.{_∷_, _++_};
+ghost use mathlib.Core.List.{List, _∷_, _++_};
 ghost use Prim.Native.Nat.{ℕ, _+_, _^_, _<_, _≤_};
 ghost use lib.ListN.{length, take, getD};
+ghost use lib.IntN.{ℤ};
 ghost use Rattle.whole.specs.Words.{mem, bit, those, some, upto};
-ghost use Rattle.rules.specs.Graph.{neighbours};
+ghost use Rattle.whole.specs.Masks.{these};
+ghost use Rattle.rules.specs.Graph.{Graph, graph};
 ghost use Rattle.rules.specs.SmallBlock.{component, isCut, among, overCuts, search as searched, findBlock};
 ghost use Rattle.cost_laws.specs.Growth.{Network};
-ghost use Rattle.whole.specs.Masks.{these};
-ghost use Rattle.small_block.specs.Held.{nearBy, removedBy, blockBy};
-ghost use Rattle.small_block.specs.Going.{GrownAs};
-ghost use Rattle.small_block.specs.Tables.{joinedBy, shape, Boundary};
+ghost use Rattle.graph.specs.Shows.{Shows};
+ghost use Rattle.small_block.specs.ByMasks.{nearBy, removedBy, blockBy};
+ghost use Rattle.small_block.specs.Explored.{GrownAs};
+ghost use Rattle.small_block.specs.Tables.{Boundary};
 
 // What was found, in growth order, and a mask of it and of what is set aside.
 pub struct Growth {
@@ -57,7 +59,7 @@ fn join(order: &mut [usize; 64], count: usize, new: u64) -> usize
 }
 
 // The component of seed, with c and the removed decision set aside.
-pub fn grow(near: &[u64; 64], c: usize, removed: usize, seed: usize) -> Growth
+fn grow(near: &[u64; 64], c: usize, removed: usize, seed: usize) -> Growth
     requires { ⌜ (Network 64 (nearBy (now near))) × (c < 64) × (seed < 64) × (mem seed (c ∷ removedBy removed) ≡ false) ⌝ }
     ensures { λ r. ⌜ GrownAs (nearBy (now (near .entry))) (c ∷ removedBy removed) seed (r .order) (r .count) (r .seen) ⌝ }
 {
@@ -69,7 +71,7 @@ pub fn grow(near: &[u64; 64], c: usize, removed: usize, seed: usize) -> Growth
     while done < count {
         let i = order[done];
         let a = near[i];
-        let new = a ^ (a & seen);
+        let new = whole::without(a, seen);
         seen = seen | new;
         count = join(&mut order, count, new);
         done += 1;
@@ -86,18 +88,9 @@ fn besides_removed(a: u64, removed: usize) -> u64
     ensures { λ r. ⌜ these r ≡ those (λ u. not (mem u (removedBy removed))) (these a) ⌝ }
 {
     if removed < 64 {
-        let s = single(removed);
-        return a ^ (a & s);
+        return whole::without(a, single(removed));
     }
     a
-}
-
-// The neighbours of j. (A call's result is known to fit its type; an element that is read is not.)
-fn row(near: &[u64; 64], j: usize) -> u64
-    requires { ⌜ j < 64 ⌝ }
-    ensures { λ r. ⌜ r ≡ getD (now (near .entry)) j 0 ⌝ }
-{
-    near[j]
 }
 
 // Is one of these decisions not reached from u, with c and the removed one set aside? Stops as soon as all are reached.
@@ -107,23 +100,23 @@ fn falls_apart(near: &[u64; 64], c: usize, removed: usize, u: usize, around: u64
 {
     let mut todo = single(u);
     let mut seen = set_aside(c, removed) | todo;
-    let mut left = around ^ (around & seen);
+    let mut left = whole::without(around, seen);
     while left != 0 {
         if todo == 0 {
             return true;
         }
         let j = u64::trailing_zeros(todo) as usize;
-        let a = row(near, j);
-        let new = a ^ (a & seen);
+        let a = graph::mask_at(near, j);
+        let new = whole::without(a, seen);
         seen = seen | new;
         todo = (todo & (todo - 1)) | new;
-        left = left ^ (left & new);
+        left = whole::without(left, new);
     }
     false
 }
 
 // Is c a cut: do its neighbours but for the removed one fall apart without the two? All of them are asked whether the first reaches them.
-pub fn is_cut(near: &[u64; 64], c: usize, removed: usize) -> bool
+fn is_cut(near: &[u64; 64], c: usize, removed: usize) -> bool
     requires { ⌜ (Network 64 (nearBy (now near))) × (c < 64) ⌝ }
     ensures { λ r. ⌜ r ≡ isCut (nearBy (now (near .entry))) (removedBy removed) c ⌝ }
 {
@@ -155,7 +148,7 @@ fn is_small(count: usize) -> bool
 }
 
 // No block.
-fn no_block() -> Growth
+pub fn no_block() -> Growth
     ensures { λ r. ⌜ (length (r .order) ≡ 64) × (r .count ≡ 0) ⌝ }
 {
     Growth {
@@ -186,27 +179,42 @@ fn first_small(near: &[u64; 64], live: u64, c: usize, removed: usize) -> Growth
     no_block()
 }
 
+// The cuts among the live decisions, for a removed decision; 64 is none. All that the search asks about cuts, it asks here.
+pub fn cuts(near: &[u64; 64], live: u64, removed: usize) -> u64
+    requires { ⌜ Network 64 (nearBy (now near)) ⌝ }
+    ensures { λ r. ⌜ these r ≡ those (isCut (nearBy (now (near .entry))) (removedBy removed)) (these live) ⌝ }
+{
+    let mut found: u64 = 0;
+    let mut rest = live;
+    while rest != 0 {
+        let c = u64::trailing_zeros(rest) as usize;
+        if is_cut(near, c, removed) {
+            found = found | single(c);
+        }
+        rest = rest & (rest - 1);
+    }
+    found
+}
+
 // For each cut ascending.
 fn over_cuts(near: &[u64; 64], live: u64, removed: usize) -> Growth
     requires { ⌜ Network 64 (nearBy (now near)) ⌝ }
     ensures { λ r. ⌜ (length (r .order) ≡ 64) × (blockBy (r .order) (r .count) ≡ overCuts (nearBy (now (near .entry))) (these live) (removedBy removed) (these live)) ⌝ }
 {
-    let mut rest = live;
+    let mut rest = cuts(near, live, removed);
     while rest != 0 {
         let c = u64::trailing_zeros(rest) as usize;
         rest = rest & (rest - 1);
-        if is_cut(near, c, removed) {
-            let g = first_small(near, live, c, removed);
-            if g.count != 0 {
-                return g;
-            }
+        let g = first_small(near, live, c, removed);
+        if g.count != 0 {
+            return g;
         }
     }
     no_block()
 }
 
 // The first small block: with none removed, then for each removed decision ascending.
-pub fn search(near: &[u64; 64], live: u64) -> Growth
+fn search(near: &[u64; 64], live: u64) -> Growth
     requires { ⌜ Network 64 (nearBy (now near)) ⌝ }
     ensures { λ r. ⌜ (length (r .order) ≡ 64) × (blockBy (r .order) (r .count) ≡ searched (nearBy (now (near .entry))) (these live)) ⌝ }
 {
@@ -226,37 +234,6 @@ pub fn search(near: &[u64; 64], live: u64) -> Growth
     no_block()
 }
 
-// The mask of i's neighbours among n.
-fn mask_of(edges: &[i64; 4096], i: usize, n: usize) -> u64
-    requires { ⌜ (i < 64) × (n ≤ 64) ⌝ }
-    ensures { λ r. ⌜ these r ≡ those (joinedBy (now (edges .entry)) i) (upto n) ⌝ }
-{
-    let mut m: u64 = 0;
-    let mut j: usize = 0;
-    while j < n {
-        let w = edges[64 * i + j];
-        if w != 0 {
-            m = m | single(j);
-        }
-        j = j + 1;
-    }
-    m
-}
-
-// Every decision's neighbours.
-fn all_masks(edges: &[i64; 4096], n: usize) -> [u64; 64]
-    requires { ⌜ n ≤ 64 ⌝ }
-    ensures { λ r. ⌜ (length r ≡ 64) × ((i : ℕ) → i < 64 → these (getD r i 0) ≡ those (joinedBy (now (edges .entry)) i) (upto n)) ⌝ }
-{
-    let mut r: [u64; 64] = [0; 64];
-    let mut i: usize = 0;
-    while i < 64 {
-        r[i] = mask_of(edges, i, n);
-        i = i + 1;
-    }
-    r
-}
-
 // The active decisions.
 fn active_mask(states: &[u8; 64], n: usize) -> u64
     requires { ⌜ n ≤ 64 ⌝ }
@@ -273,35 +250,34 @@ fn active_mask(states: &[u8; 64], n: usize) -> u64
     m
 }
 
-// The first small block of a graph.
-pub fn find_block(edges: &[i64; 4096], states: &[u8; 64], n: usize) -> Growth
-    requires { ⌜ (n ≤ 64) × (length (now edges) ≡ 4096) × (Network 64 (neighbours (shape n (now edges) (now states)))) ⌝ }
-    ensures { λ r. ⌜ (length (r .order) ≡ 64) × (blockBy (r .order) (r .count) ≡ findBlock (shape n (now (edges .entry)) (now (states .entry)))) ⌝ }
+// The first small block of a graph whose edges the masks show.
+pub fn find_block(masks: &[u64; 64], states: &[u8; 64], n: usize) -> Growth
+    requires { ⌜ (n ≤ 64) × Network 64 (nearBy (now masks)) ⌝ }
+    ensures { λ r. ⌜ (length (r .order) ≡ 64) × ((c : ℤ) (l e : List ℤ) → Shows n e (now (masks .entry)) → blockBy (r .order) (r .count) ≡ findBlock (graph n c l e (now (states .entry)))) ⌝ }
 {
-    let near = all_masks(edges, n);
     let live = active_mask(states, n);
-    search(&near, live)
+    search(masks, live)
 }
 
 // The outside neighbours of a block's members, ascending, at the front of out; how many they are.
 pub fn boundary_of(
-    edges: &[i64; 4096],
-    n: usize,
+    masks: &[u64; 64],
     order: &[usize; 64],
     count: usize,
     out: &mut [usize; 64],
 ) -> usize
-    requires { ⌜ (n ≤ 64) × (length (now order) ≡ 64) × (count ≤ 64) × ((k : ℕ) → k < count → getD (now order) k 0 < 64) × (length (now out) ≡ 64) ⌝ }
-    ensures { λ r. ⌜ Boundary n (now (edges .entry)) (take count (now (order .entry))) (now (out .exit)) r ⌝ }
+    requires { ⌜ (length (now order) ≡ 64) × (count ≤ 64) × ((k : ℕ) → k < count → getD (now order) k 0 < 64) × (length (now out) ≡ 64) ⌝ }
+    ensures { λ r. ⌜ ((g : Graph) → g .n ≤ 64 → Shows (g .n) (g .edges) (now (masks .entry)) → Boundary g (take count (now (order .entry))) (now (out .exit)) r) ⌝ }
 {
-    let mut acc: u64 = 0;
+    let mut joined: u64 = 0;
     let mut own: u64 = 0;
     let mut p: usize = 0;
     while p < count {
         let i = order[p];
-        acc = acc | mask_of(edges, i, n);
+        joined = joined | graph::mask_at(masks, i);
         own = own | single(i);
         p = p + 1;
     }
-    join(out, 0, acc ^ (acc & own))
+    let outside = whole::without(joined, own);
+    join(out, 0, outside)
 }

@@ -9,11 +9,12 @@ use borrow.Author.Tests.{leb-true, eqb-true}
 use Rattle.whole.specs.Words.{mem}
 use Rattle.whole.specs.Tests.{and-true}
 use Rattle.whole.specs.Members.{in-head, in-tail}
-use Rattle.rules.specs.Objective.{lowDegree, degreeThree, dominantEdge, smallBlock}
 use Rattle.rules.specs.Graph.{Graph, active, neighbours, degree}
 use Rattle.rules.specs.DegreeThree.{cubic}
 use Rattle.rules.specs.DominantEdge.{Found, nothing, at, first, dominant, dominates}
 use Rattle.rules.specs.SmallBlock.{Block, none, members, findBlock}
+use Rattle.rules.specs.Options.{lowDegree, degreeThree, dominantEdge, smallBlock}
+use Rattle.rules.specs.declared.Options.{Options}
 use Rattle.rules.specs.Run.{State, Way, inactive, low, into, three, failed, idle, orThree, way, reduced, skipped, go, takeFront, blocked, Next, over, due, dueBlock, dueAt, run, begin}
 use Rattle.cost_laws.specs.Stands.{Fine}
 use Rattle.sound_laws.specs.Sound.{Sound, sound-none, sound-then}
@@ -47,30 +48,30 @@ first-is p (x ∷ xs) = test (p x) refl (first p xs) (first-is p xs)
     test true e w h = (in-head x xs, e)
     test false e w h = later w h
 
-module _ (sw : ℕ) (g : Graph) (i : ℕ) where
-  or-three-due : active g i ≡ true → (w : Found) → First (dominates g i) (neighbours g i) w → Due g i (orThree sw g i w)
+module _ (opt : Options) (g : Graph) (i : ℕ) where
+  or-three-due : active g i ≡ true → (w : Found) → First (dominates g i) (neighbours g i) w → Due g i (orThree opt g i w)
   unfolding orThree First
   or-three-due a (at j) h = (a, h)
-  or-three-due a nothing h = test (lowDegree sw && degreeThree sw && eqb (degree g i) 3) refl (cubic g i) refl
+  or-three-due a nothing h = test (lowDegree opt && degreeThree opt && eqb (degree g i) 3) refl (cubic g i) refl
     where
-      test : (b : Bool) → (lowDegree sw && degreeThree sw && eqb (degree g i) 3) ≡ b → (c : Bool) → cubic g i ≡ c → Due g i (cond b (cond c failed three) idle)
+      test : (b : Bool) → (lowDegree opt && degreeThree opt && eqb (degree g i) 3) ≡ b → (c : Bool) → cubic g i ≡ c → Due g i (cond b (cond c failed three) idle)
       test true e true c = tt
-      test true e false c = (a, (eqb-true (degree g i) 3 (and-true (lowDegree sw && degreeThree sw) (eqb (degree g i) 3) e .1), c))
+      test true e false c = (a, (eqb-true (degree g i) 3 (and-true (lowDegree opt && degreeThree opt) (eqb (degree g i) 3) e .1), c))
       test false e c d = tt
 
-  way-due : Due g i (way sw g i)
+  way-due : Due g i (way opt g i)
   unfolding way dominant First
-  way-due = test (active g i) refl (lowDegree sw && leb (degree g i) 2) refl
+  way-due = test (active g i) refl (lowDegree opt && leb (degree g i) 2) refl
     where
       found : (b : Bool) → First (dominates g i) (neighbours g i) (cond b (first (dominates g i) (neighbours g i)) nothing)
       found true = first-is (dominates g i) (neighbours g i)
       found false = tt
 
-      test : (b : Bool) → active g i ≡ b → (c : Bool) → (lowDegree sw && leb (degree g i) 2) ≡ c
-          → Due g i (cond (not b) inactive (cond c low (orThree sw g i (cond (dominantEdge sw) (dominant g i) nothing))))
+      test : (b : Bool) → active g i ≡ b → (c : Bool) → (lowDegree opt && leb (degree g i) 2) ≡ c
+          → Due g i (cond (not b) inactive (cond c low (orThree opt g i (cond (dominantEdge opt) (dominant g i) nothing))))
       test false e c d = tt
-      test true e true d = (e, leb-true (degree g i) 2 (and-true (lowDegree sw) (leb (degree g i) 2) d .1))
-      test true e false d = or-three-due e (cond (dominantEdge sw) (dominant g i) nothing) (found (dominantEdge sw))
+      test true e true d = (e, leb-true (degree g i) 2 (and-true (lowDegree opt) (leb (degree g i) 2) d .1))
+      test true e false d = or-three-due e (cond (dominantEdge opt) (dominant g i) nothing) (found (dominantEdge opt))
 
 -- ---- the run
 module _ (g₀ : Graph) where
@@ -78,39 +79,39 @@ module _ (g₀ : Graph) where
   abbrev pub Reached : State → Type 0
   Reached s = Sound g₀ (s .steps) (s .graph)
 
-  go-sound : (w : Way) (sw i : ℕ) (s : State) → Due (s .graph) i w → Reached s → Reached (go w sw i s)
+  go-sound : (w : Way) (opt : Options) (i : ℕ) (s : State) → Due (s .graph) i w → Reached s → Reached (go w opt i s)
   unfolding go reduced skipped
-  go-sound inactive sw i s d r = r
-  go-sound low sw i s d r = let f : Fine (s .graph) = r .stands .fine in sound-then r (eliminate-sound (s .graph) f i (f .inside i (d .0), d .0) (d .1))
-  go-sound (into j) sw i s d r = let f : Fine (s .graph) = r .stands .fine in sound-then r (contract-sound (s .graph) f i (f .inside i (d .0), d .0) j (d .1 .0) (d .1 .1))
-  go-sound three sw i s d r = let f : Fine (s .graph) = r .stands .fine in sound-then r (three-sound (s .graph) f i (f .inside i (d .0), d .0) (d .1 .0) (d .1 .1))
-  go-sound failed sw i s d r = r
-  go-sound idle sw i s d r = r
+  go-sound inactive opt i s d r = r
+  go-sound low opt i s d r = let f : Fine (s .graph) = r .stands .fine in sound-then r (eliminate-sound (s .graph) f i (f .inside i (d .0), d .0) (d .1))
+  go-sound (into j) opt i s d r = let f : Fine (s .graph) = r .stands .fine in sound-then r (contract-sound (s .graph) f i (f .inside i (d .0), d .0) j (d .1 .0) (d .1 .1))
+  go-sound three opt i s d r = let f : Fine (s .graph) = r .stands .fine in sound-then r (three-sound (s .graph) f i (f .inside i (d .0), d .0) (d .1 .0) (d .1 .1))
+  go-sound failed opt i s d r = r
+  go-sound idle opt i s d r = r
 
   -- what is due is reached
   After : Next → Type 0
   After over = Unit
   After (due t) = Reached t
 
-  block-after : (sw : ℕ) (s : State) (b : Block) → ((m : List ℕ) → b ≡ members m → findBlock (s .graph) ≡ members m) → Reached s → After (dueBlock sw s b)
+  block-after : (opt : Options) (s : State) (b : Block) → ((m : List ℕ) → b ≡ members m → findBlock (s .graph) ≡ members m) → Reached s → After (dueBlock opt s b)
   unfolding After dueBlock blocked
-  block-after sw s none h r = tt
-  block-after sw s (members b) h r = sound-then r (block-sound (s .graph) (r .stands .fine) b (h b refl))
+  block-after opt s none h r = tt
+  block-after opt s (members b) h r = sound-then r (block-sound (s .graph) (r .stands .fine) b (h b refl))
 
-  due-after : (sw : ℕ) (s : State) (q : List ℕ) → Reached s → After (dueAt sw s q)
+  due-after : (opt : Options) (s : State) (q : List ℕ) → Reached s → After (dueAt opt s q)
   unfolding After dueAt takeFront
-  due-after sw s [] r = block-after sw s (cond (smallBlock sw) (findBlock (s .graph)) none) (λ m e. which (smallBlock sw) m e) r
+  due-after opt s [] r = block-after opt s (cond (smallBlock opt) (findBlock (s .graph)) none) (λ m e. which (smallBlock opt) m e) r
     where
       which : (b : Bool) (m : List ℕ) → cond b (findBlock (s .graph)) none ≡ members m → findBlock (s .graph) ≡ members m
       which true m e = e
       which false m e = cc
-  due-after sw s (i ∷ q) r = go-sound (way sw (s .graph) i) sw i (takeFront q s) (way-due sw (s .graph) i) r
+  due-after opt s (i ∷ q) r = go-sound (way opt (s .graph) i) opt i (takeFront q s) (way-due opt (s .graph) i) r
 
   -- "Soundness of the run at EVERY budget and switch set"
-  pub run-sound : (budget sw : ℕ) (s : State) → Reached s → Reached (run budget sw s .state)
+  pub run-sound : (budget : ℕ) (opt : Options) (s : State) → Reached s → Reached (run budget opt s .state)
   unfolding After
-  run-sound b sw s r = run-keeps sw Reached (λ a t e q. subst After e (due-after sw a (a .queue) q)) b s r
+  run-sound b opt s r = run-keeps opt Reached (λ a t e q. subst After e (due-after opt a (a .queue) q)) b s r
 
-  pub begin-sound : (sw : ℕ) → Fine g₀ → Reached (begin sw g₀)
+  pub begin-sound : (opt : Options) → Fine g₀ → Reached (begin opt g₀)
   unfolding begin
-  begin-sound sw f = sound-none g₀ f
+  begin-sound opt f = sound-none g₀ f

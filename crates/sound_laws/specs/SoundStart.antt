@@ -14,6 +14,7 @@ use borrow.Author.Tests.{eqb-false, ltb-true, ltb-false}
 use Rattle.whole.specs.Words.{isZeroZ}
 use Rattle.whole.specs.Tests.{clash}
 use Rattle.whole.specs.Lists.{past}
+use Rattle.rules.specs.Options.{asked}
 use Rattle.rules.specs.Objective.{Objective}
 use Rattle.rules.specs.Graph.{Graph, lin, active, addLinear, addEdge, addTerm, addTerms, noEdges, bare, graphOf}
 use Rattle.rules.specs.Fixing.{fix, fixAll, start}
@@ -118,7 +119,7 @@ module _ (o : Objective) (fit : Fit o) where
   -- the whole run, from the start to its end
   pub ended-sound : Sound (start o) (ended o .state .steps) (ended o .state .graph)
   unfolding ended
-  ended-sound = run-sound (start o) (o .budget) (o .switches) _ (begin-sound (start o) (o .switches) (start-stands .fine))
+  ended-sound = run-sound (start o) (o .budget) (asked o) _ (begin-sound (start o) (asked o) (start-stands .fine))
 
   pub ended-n : ended o .state .graph .n ≡ o .n
   ended-n = ended-sound .stands .size ∙ start-stands .size

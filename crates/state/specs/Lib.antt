@@ -1,2 +1,6 @@
+pub mod Counting
+pub mod Steps
+pub mod StepsLaws
+pub mod Joins
+pub mod JoinsLaws
 pub mod Holds
-pub mod SameN

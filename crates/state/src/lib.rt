@@ -1,39 +1,62 @@
-// A state of the run: the frame of its graph, the queue and the counts, by value. The weights, the masks and the queue's ring stay in their arrays.
+// A state of the run by value: the frame of its graph and what it has counted. The weights, the masks and the states stay in their arrays, the queue in the pass.
 ghost use mathlib.Core.Path.{_≡_};
-ghost use mathlib.Core.List.{List};
-ghost use Prim.Native.Nat.{ℕ, _<_, _≤_};
-ghost use lib.ListN.{length};
-ghost use lib.IntN.{ℤ};
-ghost use Rattle.rules.specs.Run as run;
-ghost use Rattle.rules.specs.Run.{plus, begin as begun};
-ghost use Rattle.graph.specs.Held.{held};
-ghost use Rattle.graph.specs.Shows.{Shows};
-ghost use Rattle.state.specs.Holds.{tallyOf, Roomy, Lent, lent, Holds, Reducible, Reduces};
+ghost use Prim.Native.Nat.{_+_, _<_};
+ghost use Rattle.rules.specs.Counts.{plus};
+ghost use Rattle.state.specs.Counting.{counts, Countable, Few};
 use graph::Frame;
-use queue::Queue;
+use rules::Tally;
 
-// The counts that a reduction adds to.
-pub struct Tally {
-    pub eliminated: u32,
-    pub three: u32,
-    pub skipped: u32,
-    pub contracted: u32,
-    pub weakly: u32,
-    pub in_blocks: u32,
-}
+pub mod steps; // the steps so far
+pub mod waiting; // who waits
 
 pub struct State {
     pub frame: Frame,
-    pub queue: Queue,
     pub tally: Tally,
     pub takes: u32,
     pub blocks: u32,
 }
 
+// What a take does with its decision. Contracted: weakly or not.
+pub enum Did {
+    Nothing,
+    Skipped,
+    Eliminated,
+    Three,
+    Contracted(bool),
+}
+
+// The counts of one unit.
+pub fn counts_of(did: Did) -> Tally
+    ensures { λ r. ⌜ r ≡ counts did ⌝ }
+{
+    let mut r = Tally {
+        eliminated: 0,
+        three: 0,
+        skipped: 0,
+        contracted: 0,
+        weakly: 0,
+        in_blocks: 0,
+    };
+    match did {
+        Did::Nothing => {}
+        Did::Skipped => r.skipped = 1,
+        Did::Eliminated => r.eliminated = 1,
+        Did::Three => {
+            r.eliminated = 1;
+            r.three = 1;
+        }
+        Did::Contracted(weakly) => {
+            r.contracted = 1;
+            r.weakly = whole::one_if(weakly);
+        }
+    }
+    r
+}
+
 // Each count with what is added to it.
 pub fn more(t: Tally, u: Tally) -> Tally
-    requires { ⌜ Roomy t u ⌝ }
-    ensures { λ r. ⌜ tallyOf r ≡ plus (tallyOf t) (tallyOf u) ⌝ }
+    requires { ⌜ Countable t × Few u ⌝ }
+    ensures { λ r. ⌜ r ≡ plus t u ⌝ }
 {
     Tally {
         eliminated: t.eliminated + u.eliminated,
@@ -45,63 +68,24 @@ pub fn more(t: Tally, u: Tally) -> Tally
     }
 }
 
-// A state before anything is taken.
-pub fn begin(masks: &[u64; 64], ring: &mut [u8; 64], frame: Frame, switches: u32) -> State
-    requires { ⌜ (frame .n ≤ 64) × (length (now ring) ≡ 64) ⌝ }
-    ensures { λ r. ⌜ ((l e : List ℤ) → Shows (frame .n) e (now (masks .entry)) → Holds (begun switches (held frame l e)) r (lent l e (now (masks .entry)) (now (ring .exit)))) × (r .frame ≡ frame) ⌝ }
+// After a take: the frame that it left, and one unit more.
+pub fn after(s: State, frame: Frame, did: Did) -> State
+    requires { ⌜ Countable (s .tally) × (s .takes < 4294967295) ⌝ }
+    ensures { λ r. ⌜ r ≡ record { frame = frame; tally = plus (s .tally) (counts did); takes = s .takes + 1; blocks = s .blocks } ⌝ }
 {
-    let n = frame.n;
-    let queue = waiting::first_queue(masks, ring, &frame.states, n, switches);
-    let none = Tally {
-        eliminated: 0,
-        three: 0,
-        skipped: 0,
-        contracted: 0,
-        weakly: 0,
-        in_blocks: 0,
-    };
+    let tally = more(s.tally, counts_of(did));
     State {
         frame: frame,
-        queue: queue,
-        tally: none,
-        takes: 0,
-        blocks: 0,
-    }
-}
-
-// After a reduction: its counts, and its neighbours as they were, a mask of them, who may join the queue.
-pub fn reduced(
-    masks: &[u64; 64],
-    ring: &mut [u8; 64],
-    s: State,
-    frame: Frame,
-    near: u64,
-    counts: Tally,
-    switches: u32,
-) -> State
-    requires { ⌜ Reducible s frame counts (now ring) ⌝ }
-    ensures { λ r. ⌜ Reduces s frame near counts switches r (now (masks .entry)) (now (ring .entry)) (now (ring .exit)) ⌝ }
-{
-    let queue = waiting::rejoin(masks, ring, &frame.states, switches, s.queue, near);
-    let tally = more(s.tally, counts);
-    State {
-        frame: frame,
-        queue: queue,
         tally: tally,
-        takes: s.takes,
+        takes: s.takes + 1,
         blocks: s.blocks,
     }
 }
 
-// "failure adds one to the skipped count"
-pub fn skip(s: State) -> State
-    requires { ⌜ s .tally .skipped < 4294967295 ⌝ }
-    ensures { λ r. ⌜ ((S : run.State) (w : Lent) → Holds S s w → Holds (run.skipped S) r w) ⌝ }
+// "One unit per take and one per block eliminated."
+pub fn units(s: State) -> u32
+    requires { ⌜ s .takes + s .blocks < 4294967296 ⌝ }
+    ensures { λ r. ⌜ r ≡ s .takes + s .blocks ⌝ }
 {
-    let before = s.tally.skipped;
-    let mut tally = s.tally;
-    tally.skipped = before + 1;
-    let mut r = s;
-    r.tally = tally;
-    r
+    s.takes + s.blocks
 }

@@ -1,4 +1,4 @@
-pub mod Ready
-pub mod ReducingLaws
-pub mod ThreeLaws
-pub mod WayLaws
+pub mod Ways
+pub mod WaysLaws
+pub mod Done
+pub mod DoneLaws

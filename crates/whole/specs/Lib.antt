@@ -14,3 +14,4 @@ pub mod Members
 pub mod Pigeon
 pub mod Those
 pub mod Masks
+pub mod Sift

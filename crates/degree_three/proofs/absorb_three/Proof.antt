@@ -1,7 +1,7 @@
 use Rattle.degree_three.proofs.Absorbing.{absorb-made}
 use Rattle.degree_three.proofs.Taking.{triple-low, triple-other}
 use Rattle.whole.specs.Fits.{read, sum-fits}
-use Rattle.low_degree.proofs.Laws.{gain-fits}
+use Rattle.size_laws.specs.Sizes.{gain-fits}
 use lib.IntN.{ℤ, pos, _+ℤ_}
 use lib.ListN.{getD}
 use lib.Seq.{getD-set-other}
@@ -29,61 +29,66 @@ near s a = getD (s .args .near .list) a 0
 gains : (s : tie.Start) (a m : ℕ) → a < 3 → (x : List ℤ) → getD x (near s a) (pos 0) ≡ getD (now (s .args .lin)) (near s a) (pos 0) → (near s a < 64) × SFits w64 (getD x (near s a) (pos 0) +ℤ entry s m)
 gains s a m h x e = (triple-low (s .pre .0) a h, gain-fits (now (s .args .lin)) x (near s a) (entry s m) (s .pre .1 .linear (near s a)) e (s .pre .2 .each m) (omega arith))
 
+-- where the entries have been read
+abbrev start : tie.After-e4 → tie.Start
+start c = c .before .before .before .before .before
+
 add-constant-requires : tie.Need-add-constant-requires
 add-constant-requires c κs =
-    let s = c .before .before .before .before .before in
+    let s = start c in
     rw (kept s 0) (sum-fits (s .args .f .constant) (entry s 0) (omega (arith, s .pre .1 .constant)) (omega (arith, s .pre .2 .each 0)))
 
 add-linear-requires : tie.Need-add-linear-requires
-add-linear-requires c κs =
-    let s = c .before .before .before .before .before .before .before in
-    rw (kept s 1) (gains s 0 1 (omega arith) (now (s .args .lin)) refl)
+add-linear-requires c κs = let s = start (c .before .before) in rw (kept s 1) (gains s 0 1 (omega arith) (now (s .args .lin)) refl)
 
--- what a later neighbour has is still what it had, after one and after two
-first : (c : tie.After-add-linear) (b : ℕ) → 0 < b → b < 3
-    → let s = c .before .before .before .before .before .before .before .before in getD (c .add-linear .last .0) (near s b) (pos 0) ≡ getD (now (s .args .lin)) (near s b) (pos 0)
+-- where the constant and one neighbour have gained, and where two have: what a later neighbour has is still what it had
+abbrev constant : tie.After-add-linear → tie.After-add-constant
+constant c = c .before .before
+
+abbrev begun : tie.After-add-linear → tie.Start
+begun c = start (constant c .before)
+
+first : (c : tie.After-add-linear) (b : ℕ) → 0 < b → b < 3 → getD (c .add-linear .last .0) (near (begun c) b) (pos 0) ≡ getD (now (begun c .args .lin)) (near (begun c) b) (pos 0)
 first c b h l =
-    let s = c .before .before .before .before .before .before .before .before in
-    let e = rw (kept s 1) at (c .add-linear .ensures) in
-    ap (λ (x : List ℤ). getD x (near s b) (pos 0)) e ∙ getD-set-other (now (s .args .lin)) (near s 0) (near s b) _ (pos 0) (triple-other (s .pre .0) 0 b h l)
-
-second : (c : tie.After-add-linear2)
-    → let s = c .before .before .before .before .before .before .before .before .before .before in getD (c .add-linear2 .last .0) (near s 2) (pos 0) ≡ getD (now (s .args .lin)) (near s 2) (pos 0)
-second c =
-    let s = c .before .before .before .before .before .before .before .before .before .before in
-    let e = rw (kept s 2) at (c .add-linear2 .ensures) in
-    ap (λ (x : List ℤ). getD x (near s 2) (pos 0)) e
-    ∙ getD-set-other (c .before .before .add-linear .last .0) (near s 1) (near s 2) _ (pos 0) (triple-other (s .pre .0) 1 2 (omega arith) (omega arith))
-    ∙ first (c .before .before) 2 (omega arith) (omega arith)
+    let s = begun c in
+    ap (λ (x : List ℤ). getD x (near s b) (pos 0)) (c .add-linear .ensures) ∙ getD-set-other (now (s .args .lin)) (near s 0) (near s b) _ (pos 0) (triple-other (s .pre .0) 0 b h l)
 
 add-linear-requires-2 : tie.Need-add-linear-requires-2
-add-linear-requires-2 c κs =
-    let s = c .before .before .before .before .before .before .before .before .before in
-    rw (kept s 2) (gains s 1 2 (omega arith) (c .before .add-linear .last .0) (first (c .before) 1 (omega arith) (omega arith)))
+add-linear-requires-2 c κs = let s = begun (c .before) in rw (kept s 2) (gains s 1 2 (omega arith) (c .before .add-linear .last .0) (first (c .before) 1 (omega arith) (omega arith)))
+
+abbrev one : tie.After-add-linear2 → tie.After-add-linear
+one c = c .before .before
+
+second : (c : tie.After-add-linear2) → let s = begun (one c) in getD (c .add-linear2 .last .0) (near s 2) (pos 0) ≡ getD (now (s .args .lin)) (near s 2) (pos 0)
+second c =
+    let s = begun (one c) in
+    ap (λ (x : List ℤ). getD x (near s 2) (pos 0)) (c .add-linear2 .ensures)
+    ∙ getD-set-other (one c .add-linear .last .0) (near s 1) (near s 2) _ (pos 0) (triple-other (s .pre .0) 1 2 (omega arith) (omega arith))
+    ∙ first (one c) 2 (omega arith) (omega arith)
 
 add-linear-requires-3 : tie.Need-add-linear-requires-3
-add-linear-requires-3 c κs =
-    let s = c .before .before .before .before .before .before .before .before .before .before .before in
-    rw (kept s 4) (gains s 2 4 (omega arith) (c .before .add-linear2 .last .0) (second (c .before)))
+add-linear-requires-3 c κs = let s = begun (one (c .before)) in rw (kept s 4) (gains s 2 4 (omega arith) (c .before .add-linear2 .last .0) (second (c .before)))
+
+-- where all three have
+abbrev two : tie.After-add-linear3 → tie.After-add-linear2
+two c = c .before .before
 
 add-pairs-requires : tie.Need-add-pairs-requires
-add-pairs-requires c κs =
-    let s = c .before .before .before .before .before .before .before .before .before .before .before .before .before .before in
-    (s .pre .0, record { each = s .pre .1 .edges }, s .pre .2)
+add-pairs-requires c κs = let s = begun (one (two (c .before .before))) in (s .pre .0, record { each = s .pre .1 .edges }, s .pre .2)
 
 returns : tie.Need-returns
 returns c =
-    let s = c .before .before .before .before .before .before .before .before .before .before .before .before .before .before .before in
-    let a = s .args in
-    let g = c .before .before .before .before .before .before .before .before .before .add-constant in
-    let l₁ = c .before .before .before .before .before .before .before .add-linear in
-    let l₂ = c .before .before .before .before .before .add-linear2 in
-    let l₃ = c .before .before .before .add-linear3 in (
-      absorb-made (entry s) (a .near .list) (a .f) (g .result) (now (a .lin)) (l₁ .last .0) (l₂ .last .0) (l₃ .last .0) (now (a .edges)) (c .add-pairs .last .0)
+    let l₃ = c .before .before .before in
+    let l₂ = two l₃ in
+    let l₁ = one l₂ in
+    let g = constant l₁ .add-constant in
+    let s = begun l₁ in
+    let a = s .args in (
+      λ ss. absorb-made (entry s) (a .near .list) (a .f) (g .result) (now (a .lin)) (l₁ .add-linear .last .0) (l₂ .add-linear2 .last .0) (l₃ .add-linear3 .last .0) (now (a .edges)) (c .add-pairs .last .0) ss
           (rw (kept s 0) at (g .ensures))
-          (rw (kept s 1) at (l₁ .ensures))
-          (rw (kept s 2) at (l₂ .ensures))
-          (rw (kept s 4) at (l₃ .ensures))
+          (rw (kept s 1) at (l₁ .add-linear .ensures))
+          (rw (kept s 2) at (l₂ .add-linear2 .ensures))
+          (rw (kept s 4) at (l₃ .add-linear3 .ensures))
           (c .add-pairs .ensures .0),
       c .add-pairs .ensures .1,
     )

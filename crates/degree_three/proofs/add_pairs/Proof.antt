@@ -6,9 +6,11 @@ use Rattle.rules.specs.DegreeThree.{pairs, addPairs}
 use Rattle.rules.specs.Graph.{graph, addEdge}
 use Rattle.graph.specs.Shows.{Shows}
 use Rattle.whole.specs.Fits.{read}
-use Rattle.low_degree.proofs.Laws.{gain-fits}
+use Rattle.size_laws.specs.Sizes.{gain-fits}
 use lib.IntN.{ℤ, pos}
 use lib.ListN.{getD, drop}
+use mir.Syntax.{w64}
+use mir.Val.{toZ, ofZ}
 use denote.Ref.{now}
 use mathlib.Core.List.{List}
 use mathlib.Core.Path.{_≡_, refl, sym, ap, _∙_, subst}
@@ -31,75 +33,78 @@ loop-holds : tie.Need-loop-holds Inv-loop μ-loop
 loop-holds c = (omega arith, λ q h l. (refl, refl), λ n b l ss. refl, λ n h w. w)
 
 -- the pair at hand is one of the three
-low-few : (c : tie.After-pair-at Inv-loop μ-loop) → c .pair-at .result .low < 3
-low-few c = omega (arith, ap (λ (x : Pair). x .low) (c .pair-at .ensures), pair-few (c .before .before .loop .p) (omega arith) .0)
+module _ (c : tie.After-pair-at Inv-loop μ-loop) where
+  abbrev loop : tie.At-loop Inv-loop μ-loop
+  loop = c .before .before
 
-high-few : (c : tie.After-pair-at Inv-loop μ-loop) → c .pair-at .result .high < 3
-high-few c = omega (arith, ap (λ (x : Pair). x .high) (c .pair-at .ensures), pair-few (c .before .before .loop .p) (omega arith) .1)
+  abbrev start : tie.Start Inv-loop μ-loop
+  start = loop .before .before
 
-mask-few : (c : tie.After-pair-at Inv-loop μ-loop) → c .pair-at .result .mask < 8
-mask-few c = omega (arith, ap (λ (x : Pair). x .mask) (c .pair-at .ensures), pair-few (c .before .before .loop .p) (omega arith) .2)
+  abbrev list : List ℕ
+  list = start .args .near .list
 
-array-read-j : tie.Need-array-read-j Inv-loop μ-loop
-array-read-j c = omega (arith, low-few c)
+  abbrev pair : Pair
+  pair = c .pair-at .result
 
-cast-j : tie.Need-cast-j Inv-loop μ-loop
-cast-j c = search (needs, triple-low (c .before .before .before .before .pre .0) (c .pair-at .result .low) (low-few c))
+  abbrev value : ℤ
+  value = getD (start .args .t4) (pair .mask) (pos 0)
 
-array-read-k : tie.Need-array-read-k Inv-loop μ-loop
-array-read-k c = omega (arith, high-few c)
+  value-read : toZ w64 (ofZ w64 value) ≡ value
+  value-read = read value (omega (arith, start .pre .2 .each (pair .mask)))
 
-cast-k : tie.Need-cast-k Inv-loop μ-loop
-cast-k c = search (needs, triple-low (c .before .before .before .before .pre .0) (c .pair-at .result .high) (high-few c))
+  low-few : pair .low < 3
+  low-few = omega (arith, ap (λ (x : Pair). x .low) (c .pair-at .ensures), pair-few (loop .loop .p) (omega arith) .0)
 
-mul-v : tie.Need-mul-v Inv-loop μ-loop
-mul-v c = search (needs, mask-few c)
+  high-few : pair .high < 3
+  high-few = omega (arith, ap (λ (x : Pair). x .high) (c .pair-at .ensures), pair-few (loop .loop .p) (omega arith) .1)
 
-array-copy-out-v : tie.Need-array-copy-out-v Inv-loop μ-loop
-array-copy-out-v c = mask-few c
+  mask-few : pair .mask < 8
+  mask-few = omega (arith, ap (λ (x : Pair). x .mask) (c .pair-at .ensures), pair-few (loop .loop .p) (omega arith) .2)
+
+  abbrev j : ℕ
+  j = getD list (pair .low) 0
+
+  abbrev k : ℕ
+  k = getD list (pair .high) 0
+
+  j-low : j < 64
+  j-low = triple-low (start .pre .0) (pair .low) low-few
+
+  k-low : k < 64
+  k-low = triple-low (start .pre .0) (pair .high) high-few
 
 add-edge-requires : tie.Need-add-edge-requires Inv-loop μ-loop
 add-edge-requires c κs =
-    let s = c .before .before .before .before .before .before .before in
-    let l = c .before .before .before .before .before .loop in
-    let here = c .before .before .before in
-    let r = here .pair-at .result in
-    let list = s .args .near .list in
+    let d = c .before .before .before in
+    let s = start d in
+    let l = loop d .loop in
     let e₀ = now (s .args .edges) in
-    let j = getD list (r .low) 0 in
-    let k = getD list (r .high) 0 in
-    let v = getD (s .args .t4) (r .mask) (pos 0) in
-    let h = s .pre .2 .each (r .mask) in
-    let same = subst (λ (y : Pair). Untouched list e₀ (l .edges) (y .low) (y .high)) (sym (here .pair-at .ensures)) (l .inv .1 (l .p) (omega arith) (omega arith)) in
-    rw (read v (omega arith))
-    (triple-low (s .pre .0) (r .low) (low-few here), triple-low (s .pre .0) (r .high) (high-few here), gain-fits e₀ (l .edges) (64 * j + k) v (s .pre .1 .each (64 * j + k)) (same .0) h (omega arith), gain-fits e₀ (l .edges) (64 * k + j) v (s .pre .1 .each (64 * k + j)) (same .1) h (omega arith))
+    let h = s .pre .2 .each (pair d .mask) in
+    let same = subst (λ (y : Pair). Untouched (list d) e₀ (l .edges) (y .low) (y .high)) (sym (d .pair-at .ensures)) (l .inv .1 (l .p) (omega arith) (omega arith)) in
+    rw (value-read d)
+    (j-low d, k-low d, gain-fits e₀ (l .edges) (64 * j d + k d) (value d) (s .pre .1 .each (64 * j d + k d)) (same .0) h (omega arith), gain-fits e₀ (l .edges) (64 * k d + j d) (value d) (s .pre .1 .each (64 * k d + j d)) (same .1) h (omega arith))
 
 loop-again : tie.Need-loop-again Inv-loop μ-loop
 loop-again c =
-    let s = c .before .before .before .before .before .before .before .before in
-    let l = c .before .before .before .before .before .before .loop in
-    let here = c .before .before .before .before in
-    let q = here .pair-at in
-    let r = q .result in
-    let list = s .args .near .list in
-    let j = getD list (r .low) 0 in
-    let k = getD list (r .high) 0 in
-    let v = getD (s .args .t4) (r .mask) (pos 0) in
-    let h = s .pre .2 .each (r .mask) in
-    let e = rw (read v (omega arith)) at (c .add-edge .ensures .0) in
+    let d = c .before .before .before .before in
+    let s = start d in
+    let l = loop d .loop in
+    let q = d .pair-at .ensures in
+    let near = list d in
+    let e = rw (value-read d) at (c .add-edge .ensures .0) in
     let E : ℕ → ℤ = λ m. getD (s .args .t4) m (pos 0) in (
       omega arith,
       λ m x y.
-          let now-set = subst (λ (y : Pair). c .add-edge .last .0 ≡ gained (l .edges) (getD list (y .low) 0) (getD list (y .high) 0) v) (q .ensures) e in
-          let new = later-untouched (s .pre .0) (l .p) m (omega arith) y (l .edges) (c .add-edge .last .0) v now-set in
+          let now-set = subst (λ (y : Pair). c .add-edge .last .0 ≡ gained (l .edges) (getD near (y .low) 0) (getD near (y .high) 0) (value d)) q e in
+          let new = later-untouched (s .pre .0) (l .p) m (omega arith) y (l .edges) (c .add-edge .last .0) (value d) now-set in
           let old = l .inv .1 m (omega arith) y in
           (new .0 ∙ old .0, new .1 ∙ old .1),
       λ n b x ss.
           l .inv .2 n b x ss
-          ∙ pairs-turn E list (l .p) (graph n b x (l .edges) ss) (omega arith)
-          ∙ ap (addPairs E list (drop (l .p + 1) pairs))
-          (subst (λ (y : Pair). addEdge (getD list (y .low) 0) (getD list (y .high) 0) (E (y .mask)) (graph n b x (l .edges) ss) ≡ graph n b x (c .add-edge .last .0) ss) (q .ensures) (edge-gain n b x (l .edges) ss v (c .add-edge .last .0) j k e)),
-      λ n f w. c .add-edge .ensures .1 n (f (r .low) (low-few here)) (f (r .high) (high-few here)) (l .inv .3 n f w),
+          ∙ pairs-turn E near (l .p) (graph n b x (l .edges) ss) (omega arith)
+          ∙ ap (addPairs E near (drop (l .p + 1) pairs))
+          (subst (λ (y : Pair). addEdge (getD near (y .low) 0) (getD near (y .high) 0) (E (y .mask)) (graph n b x (l .edges) ss) ≡ graph n b x (c .add-edge .last .0) ss) q (edge-gain n b x (l .edges) ss (value d) (c .add-edge .last .0) (j d) (k d) e)),
+      λ n f w. c .add-edge .ensures .1 n (f (pair d .low) (low-few d)) (f (pair d .high) (high-few d)) (l .inv .3 n f w),
     )
 
 returns : tie.Need-returns Inv-loop μ-loop
@@ -116,12 +121,12 @@ add-pairs-spec =
     μ-loop
     loop-holds
     (λ c κs. search needs)
-    array-read-j
-    cast-j
-    array-read-k
-    cast-k
-    mul-v
-    array-copy-out-v
+    (λ c. omega (arith, low-few c))
+    (λ c. search (needs, j-low c))
+    (λ c. omega (arith, high-few c))
+    (λ c. search (needs, k-low c))
+    (λ c. search (needs, mask-few c))
+    mask-few
     add-edge-requires
     (λ c. search needs)
     (λ c. search needs)

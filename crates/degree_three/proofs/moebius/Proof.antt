@@ -1,68 +1,26 @@
-use Rattle.degree_three.proofs.Entries.{Entries, entries, entries-are, read-sub}
+use Rattle.degree_three.proofs.Entries as entry
+use Rattle.rules.specs.DegreeThree.{moebius}
 use Rattle.whole.specs.Lists.{cons-same}
-use Rattle.whole.specs.Ints.{rd}
-use mathlib.Core.Path.{refl, _∙_}
+use Rattle.whole.specs.Words.{tab}
+use mathlib.Core.Path.{refl}
 use borrow.Author.Needs.{needs}
 use Rattle.degree_three.proofs.moebius.Statement.{statement}
 use Rattle.degree_three.proofs.moebius.Tie as tie
 
-made : (c : tie.Start) → Entries (c .args .t1)
-made c = entries (c .args .t1) (c .pre)
-
-sub-s1 : tie.Need-sub-s1
-sub-s1 c = let m = made (c .before .before) in rw (rd (m .t1), rd (m .t0)) (m .s1)
-
-sub-s3 : tie.Need-sub-s3
-sub-s3 c = let m = made (c .before .before .before .before) in rw (rd (m .t3), rd (m .t2)) (m .s3)
-
-sub-s5 : tie.Need-sub-s5
-sub-s5 c = let m = made (c .before .before .before .before .before .before) in rw (rd (m .t5), rd (m .t4)) (m .s5)
-
-sub-s7 : tie.Need-sub-s7
-sub-s7 c = let m = made (c .before .before .before .before .before .before .before .before) in rw (rd (m .t7), rd (m .t6)) (m .s7)
-
-sub-u2 : tie.Need-sub-u2
-sub-u2 c = let m = made (c .before .before .before .before .before .before .before .before .before .before) in rw (rd (m .t2), rd (m .t0)) (m .u2)
-
-sub-u3 : tie.Need-sub-u3
-sub-u3 c = let m = made (c .before .before .before .before .before .before .before .before .before .before) in rw (rd (m .t3), rd (m .t2), rd (m .t1), rd (m .t0), rd (m .s3), rd (m .s1)) (m .u3)
-
-sub-u6 : tie.Need-sub-u6
-sub-u6 c = let m = made (c .before .before .before .before .before .before .before .before .before .before .before .before) in rw (rd (m .t6), rd (m .t4)) (m .u6)
-
-sub-u7 : tie.Need-sub-u7
-sub-u7 c = let m = made (c .before .before .before .before .before .before .before .before .before .before .before .before) in rw (rd (m .t7), rd (m .t6), rd (m .t5), rd (m .t4), rd (m .s7), rd (m .s5)) (m .u7)
-
-sub-e4 : tie.Need-sub-e4
-sub-e4 c = let m = made (c .before .before .before .before .before .before .before .before .before .before .before .before .before .before) in rw (rd (m .t4), rd (m .t0)) (m .e4)
-
-sub-e5 : tie.Need-sub-e5
-sub-e5 c = let m = made (c .before .before .before .before .before .before .before .before .before .before .before .before .before .before) in rw (rd (m .t5), rd (m .t4), rd (m .t1), rd (m .t0), rd (m .s5), rd (m .s1)) (m .e5)
-
-sub-e6 : tie.Need-sub-e6
-sub-e6 c = let m = made (c .before .before .before .before .before .before .before .before .before .before .before .before .before .before) in rw (rd (m .t6), rd (m .t4), rd (m .t2), rd (m .t0), rd (m .u6), rd (m .u2)) (m .e6)
-
-sub-e7 : tie.Need-sub-e7
-sub-e7 c = let m = made (c .before .before .before .before .before .before .before .before .before .before .before .before .before .before) in rw (rd (m .t7), rd (m .t6), rd (m .t5), rd (m .t4), rd (m .t3), rd (m .t2), rd (m .t1), rd (m .t0), rd (m .s7), rd (m .s5), rd (m .u7), rd (m .s3), rd (m .s1), rd (m .u3)) (m .e7)
+-- where the eight have been read, as from there on
+abbrev start : tie.After-t7 → tie.Start
+start c = c .before .before .before .before .before .before .before .before
 
 returns : tie.Need-returns
+unfolding tab moebius
 returns c =
-    let s = c .before .before .before .before .before .before .before .before .before .before .before .before .before .before .before in
-    let m = made s in
-    let s1 = read-sub (rd (m .t1)) (rd (m .t0)) (m .s1) in
-    let s3 = read-sub (rd (m .t3)) (rd (m .t2)) (m .s3) in
-    let s5 = read-sub (rd (m .t5)) (rd (m .t4)) (m .s5) in
-    let s7 = read-sub (rd (m .t7)) (rd (m .t6)) (m .s7) in
-    let u2 = read-sub (rd (m .t2)) (rd (m .t0)) (m .u2) in
-    let u3 = read-sub s3 s1 (m .u3) in
-    let u6 = read-sub (rd (m .t6)) (rd (m .t4)) (m .u6) in
-    let u7 = read-sub s7 s5 (m .u7) in
-    let e4 = read-sub (rd (m .t4)) (rd (m .t0)) (m .e4) in
-    let e5 = read-sub s5 s1 (m .e5) in
-    let e6 = read-sub u6 u2 (m .e6) in
-    let e7 = read-sub u7 u3 (m .e7) in
-    cons-same (rd (m .t0)) (cons-same s1 (cons-same u2 (cons-same u3 (cons-same e4 (cons-same e5 (cons-same e6 (cons-same e7 refl)))))))
-    ∙ entries-are (s .args .t1)
+    let t = start c .args .t1 in
+    let s = start c .pre in
+    cons-same (entry.given-back t s 0)
+    (cons-same (entry.s1 t s .back)
+    (cons-same (entry.u2 t s .back)
+    (cons-same (entry.u3 t s .back)
+    (cons-same (entry.e4 t s .back) (cons-same (entry.e5 t s .back) (cons-same (entry.e6 t s .back) (cons-same (entry.e7 t s .back) refl)))))))
 
 pub moebius-spec : {M : Type 1} → statement M
 moebius-spec =
@@ -70,29 +28,22 @@ moebius-spec =
     (tie.spec
     (λ c. search needs)
     (λ c. search needs)
-    sub-s1
     (λ c. search needs)
     (λ c. search needs)
-    sub-s3
     (λ c. search needs)
     (λ c. search needs)
-    sub-s5
     (λ c. search needs)
     (λ c. search needs)
-    sub-s7
-    (λ c. search needs)
-    (λ c. search needs)
-    sub-u2
-    sub-u3
-    (λ c. search needs)
-    (λ c. search needs)
-    sub-u6
-    sub-u7
-    (λ c. search needs)
-    (λ c. search needs)
-    sub-e4
-    sub-e5
-    sub-e6
-    sub-e7
-    (λ c. search needs)
+    (λ c. entry.s1 (start c .args .t1) (start c .pre) .fits)
+    (λ c. entry.s3 (start c .args .t1) (start c .pre) .fits)
+    (λ c. entry.s5 (start c .args .t1) (start c .pre) .fits)
+    (λ c. entry.s7 (start c .args .t1) (start c .pre) .fits)
+    (λ c. entry.u2 (start c .args .t1) (start c .pre) .fits)
+    (λ c. entry.u3 (start c .args .t1) (start c .pre) .fits)
+    (λ c. entry.u6 (start c .args .t1) (start c .pre) .fits)
+    (λ c. entry.u7 (start c .args .t1) (start c .pre) .fits)
+    (λ c. entry.e4 (start c .args .t1) (start c .pre) .fits)
+    (λ c. entry.e5 (start c .args .t1) (start c .pre) .fits)
+    (λ c. entry.e6 (start c .args .t1) (start c .pre) .fits)
+    (λ c. entry.e7 (start c .args .t1) (start c .pre) .fits)
     returns)

@@ -1,11 +1,10 @@
 use Rattle.whole.specs.Parts.{∣_∣}
-use Rattle.dominant_edge.proofs.Taking.{low, left-fits}
 use Rattle.dominant_edge.proofs.Finding.{edgesTo, negatives-turn, positives-turn, negatives-end, positives-end, Turn, made}
 use Rattle.rules.specs.DominantEdge.{negatives, positives}
 use Rattle.rules.specs.Graph.{lin, neighbours}
 use Rattle.whole.specs.Ints.{rd}
 use Rattle.whole.specs.Words.{below0, above0}
-use Rattle.whole.specs.Masks.{these, these-apart, rest-less}
+use Rattle.whole.specs.Masks.{these, these-apart, turn as taking}
 use Rattle.whole.specs.Pigeon.{pigeon}
 use Rattle.whole.specs.Sum.{sum-next, sum-end}
 use Rattle.accepted_laws.specs.Small.{Small, small-map}
@@ -57,50 +56,41 @@ module _ (s : tie.Start Inv-loop μ-loop) (rest : ℕ) (x : ℤ) where
   hi-small e = omega (arith, hi-size (toZ w64 (ofZ w64 (s .args .a))) (among (s .args .m)) weight-small (each (s .args .m)) (among rest) x (each rest) (few (s .args .m)) (few rest) e)
 
 low-in : (c : tie.In-loop Inv-loop μ-loop) → trailingZeros 64 (c .before .loop .rest) < 64
-low-in c = low (c .before .loop .rest) (c .loop-test .taken) (c .before .loop .inv .0)
+low-in c = taking (c .before .loop .rest) (c .loop-test .taken) (c .before .loop .inv .0) .below
 
 -- a turn's numbers
 module _ (c : tie.After-smaller Inv-loop μ-loop) where
+  abbrev at : tie.In-loop Inv-loop μ-loop
+  at = c .before .before
+
   abbrev start : tie.Start Inv-loop μ-loop
-  start = c .before .before .before .before
+  start = at .before .before
 
   abbrev rest : ℕ
-  rest = c .before .before .before .loop .rest
+  rest = at .before .loop .rest
 
   abbrev weight : ℤ
   weight = getD (now (start .args .edges)) (64 * start .args .i + trailingZeros 64 rest) (pos 0)
 
   abbrev l : ℤ
-  l = toZ w64 (c .before .before .before .loop .lo)
+  l = toZ w64 (at .before .loop .lo)
 
   abbrev h : ℤ
-  h = toZ w64 (c .before .before .before .loop .hi)
+  h = toZ w64 (at .before .loop .hi)
 
   abbrev turn : Turn l h weight (c .smaller .result)
   turn =
-      let v = c .before .before .before .loop .inv in
+      let v = at .before .loop .inv in
       made l h weight (c .smaller .result) (lo-small start rest l (v .1)) (hi-small start rest h (v .2)) (start .pre .2 .each (64 * start .args .i + trailingZeros 64 rest)) (c .smaller .ensures)
-
-sub-above : tie.Need-sub-above Inv-loop μ-loop
-sub-above c = turn c .above-fits
-
-add-lo : tie.Need-add-lo Inv-loop μ-loop
-add-lo c = turn c .lo-fits
-
-add-hi : tie.Need-add-hi Inv-loop μ-loop
-add-hi c = turn c .hi-fits
-
-loop-less : tie.Need-loop-less Inv-loop μ-loop
-loop-less c = rest-less (rest c) (c .before .before .loop-test .taken) (c .before .before .before .loop .inv .0)
 
 loop-again : tie.Need-loop-again Inv-loop μ-loop
 loop-again c =
-    let v = c .before .before .before .loop .inv in
-    let d = c .before .before .loop-test .taken in
+    let v = at c .before .loop .inv in
+    let d = at c .loop-test .taken in
     let e = now (start c .args .edges) in
     let i = start c .args .i in
     let t = turn c in (
-      left-fits (rest c) d (v .0),
+      taking (rest c) d (v .0) .smaller,
       sum-next (l c) _ (below0 (weight c)) _ _ _ (t .lo-next) (negatives-turn e i (rest c) d (v .0)) (v .1),
       sum-next (h c) _ (above0 (weight c)) _ _ _ (t .hi-next) (positives-turn e i (rest c) d (v .0)) (v .2),
     )
@@ -136,10 +126,10 @@ bounds-of-spec =
     (λ c. omega (arith, low-in c))
     (λ c. omega (arith, low-in c))
     (λ c κs. search needs)
-    sub-above
-    add-lo
-    add-hi
+    (λ c. turn c .above-fits)
+    (λ c. turn c .lo-fits)
+    (λ c. turn c .hi-fits)
     (λ c. omega arith)
-    loop-less
+    (λ c. taking (rest c) (at c .loop-test .taken) (at c .before .loop .inv .0) .less)
     loop-again
     returns)

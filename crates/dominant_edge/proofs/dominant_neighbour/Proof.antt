@@ -1,12 +1,11 @@
 use Rattle.whole.specs.Parts.{∣_∣}
-use Rattle.dominant_edge.proofs.Taking.{low, left-fits}
 use Rattle.dominant_edge.proofs.Finding.{first-passes, first-fails, first-end, test-is}
 use Rattle.dominant_edge.specs.Answer.{Seen, testOf, answerOf, dominantOf}
 use Rattle.dominant_edge.specs.declared.Test.{Test}
 use Rattle.dominant_edge.specs.declared.Dominant.the-variants.{Neighbour}
 use Rattle.rules.specs.DominantEdge.{weak, dominates, first, dominant}
 use Rattle.rules.specs.Graph.{Graph}
-use Rattle.whole.specs.Masks.{these, rest-less}
+use Rattle.whole.specs.Masks.{these, turn as taking}
 use Rattle.whole.specs.Fits.{read}
 use Rattle.whole.specs.Ints.{rd}
 use lib.Count.{trailingZeros}
@@ -36,30 +35,36 @@ loop-holds : tie.Need-loop-holds Inv-loop μ-loop
 loop-holds c = (omega arith, λ g seen. refl)
 
 low-in : (c : tie.In-loop Inv-loop μ-loop) → trailingZeros 64 (c .before .loop .rest) < 64
-low-in c = low (c .before .loop .rest) (c .loop-test .taken) (c .before .loop .inv .0)
+low-in c = taking (c .before .loop .rest) (c .loop-test .taken) (c .before .loop .inv .0) .below
 
 -- the numbers of a turn, read back from their locals
 module _ (c : tie.After-w Inv-loop μ-loop) where
+  abbrev turn : tie.In-loop Inv-loop μ-loop
+  turn = c .before
+
+  abbrev bounds : tie.After-bounds-of Inv-loop μ-loop
+  bounds = turn .before .before .before .before
+
   abbrev start : tie.Start Inv-loop μ-loop
-  start = c .before .before .before .before .before .before
+  start = bounds .before
 
   abbrev at : ℕ
-  at = trailingZeros 64 (c .before .before .loop .rest)
+  at = trailingZeros 64 (turn .before .loop .rest)
 
   abbrev low-bound : ℤ
-  low-bound = c .before .before .before .before .before .bounds-of .result .lo
+  low-bound = bounds .bounds-of .result .lo
 
   abbrev high-bound : ℤ
-  high-bound = c .before .before .before .before .before .bounds-of .result .hi
+  high-bound = bounds .bounds-of .result .hi
 
   abbrev weight : ℤ
   weight = getD (now (start .args .edges)) (64 * start .args .i + at) (pos 0)
 
   low-small : ∣ low-bound ∣ ≤ 2 ^ 50
-  low-small = c .before .before .before .before .before .bounds-of .ensures .1
+  low-small = bounds .bounds-of .ensures .1
 
   high-small : ∣ high-bound ∣ ≤ 2 ^ 50
-  high-small = c .before .before .before .before .before .bounds-of .ensures .2
+  high-small = bounds .bounds-of .ensures .2
 
   weight-small : ∣ weight ∣ ≤ 2199023255552
   weight-small = start .pre .2 .each (64 * start .args .i + at)
@@ -83,7 +88,7 @@ tested c g seen =
     let d = c .before in
     let i = start d .args .i in
     let e : c .test-edge .result ≡ testOf (low-bound d) (high-bound d) (weight d) = rw (low-read d, high-read d, weight-read d) at (c .test-edge .ensures) in
-    let b = d .before .before .before .before .before .bounds-of .ensures .0 g seen in
+    let b = bounds d .bounds-of .ensures .0 g seen in
     let t = test-is g i (at d) (low-bound d) (high-bound d) (weight d) (b .0) (b .1) (ap (λ (x : List ℤ). getD x (64 * i + at d) (pos 0)) (sym (seen .edges))) in
     (ap (λ (x : Test). x .passes) e ∙ t .0, ap (λ (x : Test). x .weak) e ∙ t .1)
 
@@ -94,28 +99,27 @@ saw s g seen = record { weight = seen .weight ∙ sym (rd (s .fits .a)); around 
 returns : tie.Need-returns Inv-loop μ-loop
 unfolding dominantOf dominant
 returns c =
-    let n = c .before .before .before in
-    let s = start (c .before .before) in
+    let d = c .before .before in
+    let s = start d in
     let i = s .args .i in
-    let l = n .before .loop in
+    let l = turn d .before .loop in
     λ g seen.
     let t = tested (c .before) g (saw s g seen) in
-    ap (Neighbour (at (c .before .before))) (t .1)
+    ap (Neighbour (at d)) (t .1)
     ∙ sym
     (ap (answerOf g i)
-    (ap (first (dominates g i)) (sym (seen .around)) ∙ l .inv .1 g (saw s g seen) ∙ first-passes (dominates g i) (l .rest) (n .loop-test .taken) (l .inv .0) (sym (t .0) ∙ c .if1 .taken)))
+    (ap (first (dominates g i)) (sym (seen .around)) ∙ l .inv .1 g (saw s g seen) ∙ first-passes (dominates g i) (l .rest) (turn d .loop-test .taken) (l .inv .0) (sym (t .0) ∙ c .if1 .taken)))
 
-loop-less : tie.Need-loop-less Inv-loop μ-loop
-loop-less c =
-    let n = c .before .before .before in
-    rest-less (n .before .loop .rest) (n .loop-test .taken) (n .before .loop .inv .0)
+-- where the test has failed
+abbrev failed : tie.Else1 Inv-loop μ-loop → tie.In-loop Inv-loop μ-loop
+failed c = turn (c .before .before)
 
 loop-again : tie.Need-loop-again Inv-loop μ-loop
 loop-again c =
-    let n = c .before .before .before in
+    let n = failed c in
     let i = start (c .before .before) .args .i in
     let l = n .before .loop in (
-      left-fits (l .rest) (n .loop-test .taken) (l .inv .0),
+      taking (l .rest) (n .loop-test .taken) (l .inv .0) .smaller,
       λ g seen. l .inv .1 g seen ∙ first-fails (dominates g i) (l .rest) (n .loop-test .taken) (l .inv .0) (sym (tested (c .before) g seen .0) ∙ c .if1 .left),
     )
 
@@ -144,6 +148,6 @@ dominant-neighbour-spec =
     test-edge-requires
     returns
     (λ c. omega arith)
-    loop-less
+    (λ c. taking (failed c .before .loop .rest) (failed c .loop-test .taken) (failed c .before .loop .inv .0) .less)
     loop-again
     returns-2)

@@ -27,19 +27,25 @@ loop-holds c =
     let a = c .args in
     (keeps-begin (a .m) (now (a .edges)) (now (a .masks)) (c .pre .0) (c .pre .1) (omega arith) (c .pre .2), λ old i gone n b l ss. refl)
 
+-- the turn at hand, where its edge gains, and past the test
+abbrev pair : tie.After-add-edge-arg2 Inv-loop μ-loop → tie.In-loop Inv-loop μ-loop
+pair c = c .before .before .before .before
+
+abbrev past : tie.Joined1 Inv-loop μ-loop → tie.In-loop Inv-loop μ-loop
+past c = c .before .before
+
 add-edge-requires : tie.Need-add-edge-requires Inv-loop μ-loop
 add-edge-requires c κs =
-    let t = c .before .before .before .before in
-    let k = t .before .loop .inv .0 in
-    let d = t .loop-test .taken in
+    let k = pair c .before .loop .inv .0 in
+    let d = pair c .loop-test .taken in
     rw (weight-read k d) (edge-fits k d (weight k d) (weight-small k d))
 
 loop-again : tie.Need-loop-again Inv-loop μ-loop
 loop-again c =
-    let l = c .before .before .before .loop in
-    let j = c .before .before .before .before .args .j in
+    let l = past c .before .loop in
+    let j = past c .before .before .args .j in
     let k = l .inv .0 in
-    let d = c .before .before .loop-test .taken in
+    let d = past c .loop-test .taken in
     ⊎-elim
     (λ y.
     let e = rw (weight-read k d) at (y .3 .ensures .0) in
@@ -77,6 +83,6 @@ move-edges-spec =
     (λ c. at-low (c .before .loop .inv .0) (c .loop-test .taken))
     add-edge-requires
     (λ c. omega arith)
-    (λ c. rest-less (c .before .before .before .loop .rest) (c .before .before .loop-test .taken) (c .before .before .before .loop .inv .0 .fits))
+    (λ c. rest-less (past c .before .loop .rest) (past c .loop-test .taken) (past c .before .loop .inv .0 .fits))
     loop-again
     returns)

@@ -2,35 +2,36 @@ use Rattle.dominant_edge.specs.Answer.{verdictOf, testOf}
 use Rattle.dominant_edge.specs.declared.Test.{Test}
 use Rattle.whole.specs.Ints.{rd}
 use Rattle.whole.specs.Fits.{fit}
-use Rattle.size_laws.specs.Sizes.{add-size, sub-size}
+use Rattle.size_laws.specs.Sizes.{less-size, more-size}
 use native.Mathlib.Omega.{arith}
 use lib.IntN.{ℤ, pos, _+ℤ_, _-ℤ_}
 use lib.Signed.{ltZ}
+use mir.Syntax.{w64}
+use mir.Val.{SFits}
 use mathlib.Core.Bool.{Bool, true, false, cond}
 use mathlib.Core.Path.{_≡_, sym, ap, _∙_}
 use borrow.Author.Needs.{needs}
 use Rattle.dominant_edge.proofs.test_edge.Statement.{statement}
 use Rattle.dominant_edge.proofs.test_edge.Tie as tie
 
+-- hi ∓ w and lo ± w fit
+upper-fits : (s : tie.Start) (t : Bool) → SFits w64 (cond t (s .args .hi -ℤ s .args .w) (s .args .hi +ℤ s .args .w))
+upper-fits s t = fit (cond t (s .args .hi -ℤ s .args .w) (s .args .hi +ℤ s .args .w)) (omega (arith, less-size t (s .args .hi) (s .args .w) (s .pre .1) (s .pre .2)))
+
+lower-fits : (s : tie.Start) (t : Bool) → SFits w64 (cond t (s .args .lo +ℤ s .args .w) (s .args .lo -ℤ s .args .w))
+lower-fits s t = fit (cond t (s .args .lo +ℤ s .args .w) (s .args .lo -ℤ s .args .w)) (omega (arith, more-size t (s .args .lo) (s .args .w) (s .pre .0) (s .pre .2)))
+
 sub-verdict : tie.Need-sub-verdict
-sub-verdict c =
-    let s = c .before in
-    rw (rd (s .fits .hi), rd (s .fits .w)) (fit (s .args .hi -ℤ s .args .w) (omega (arith, sub-size (s .args .hi) (s .args .w) (s .pre .1) (s .pre .2))))
+sub-verdict c = let s = c .before in rw (rd (s .fits .hi), rd (s .fits .w)) (upper-fits s true)
 
 add-verdict : tie.Need-add-verdict
-add-verdict c =
-    let s = c .before in
-    rw (rd (s .fits .lo), rd (s .fits .w)) (fit (s .args .lo +ℤ s .args .w) (omega (arith, add-size (s .args .lo) (s .args .w) (s .pre .0) (s .pre .2))))
+add-verdict c = let s = c .before in rw (rd (s .fits .lo), rd (s .fits .w)) (lower-fits s true)
 
 add-verdict-2 : tie.Need-add-verdict-2
-add-verdict-2 c =
-    let s = c .before in
-    rw (rd (s .fits .hi), rd (s .fits .w)) (fit (s .args .hi +ℤ s .args .w) (omega (arith, add-size (s .args .hi) (s .args .w) (s .pre .1) (s .pre .2))))
+add-verdict-2 c = let s = c .before in rw (rd (s .fits .hi), rd (s .fits .w)) (upper-fits s false)
 
 sub-verdict-2 : tie.Need-sub-verdict-2
-sub-verdict-2 c =
-    let s = c .before in
-    rw (rd (s .fits .lo), rd (s .fits .w)) (fit (s .args .lo -ℤ s .args .w) (omega (arith, sub-size (s .args .lo) (s .args .w) (s .pre .0) (s .pre .2))))
+sub-verdict-2 c = let s = c .before in rw (rd (s .fits .lo), rd (s .fits .w)) (lower-fits s false)
 
 -- the arm that the edge's sign takes
 arm : (t : Bool) (lo hi w : ℤ) (r : Test) → ltZ (pos 0) w ≡ t → r ≡ cond t (verdictOf (hi -ℤ w) (lo +ℤ w)) (verdictOf (hi +ℤ w) (lo -ℤ w)) → r ≡ testOf lo hi w

@@ -4,8 +4,7 @@ use Rattle.whole.specs.Masks.{these, these-end as ended, rest-less}
 use Rattle.rules.specs.DominantEdge.{turn}
 use Rattle.rules.specs.Graph.{Graph, graph, addEdge}
 use Rattle.graph.specs.HeldLaws.{linear-gain, edge-gain}
-use Rattle.size_laws.specs.Sizes.{neg-size}
-use Rattle.low_degree.proofs.Laws.{gain-fits}
+use Rattle.size_laws.specs.Sizes.{neg-size, gain-fits}
 use Rattle.whole.specs.Words.{mem}
 use lib.IntN.{ℤ, pos, negℤ}
 use lib.ListN.{getD}
@@ -33,34 +32,43 @@ loop-holds c =
     let a = c .args in
     (keeps-begin (a .m) (now (a .edges)) (now (a .masks)) (c .pre .0) (c .pre .1) (omega arith) (c .pre .3), λ t q. refl, λ old i gone n b ss. refl)
 
+-- the turn at hand, where its neighbour gains, where its edge gains, and past the test
+abbrev near : tie.After-add-linear-arg Inv-loop μ-loop → tie.In-loop Inv-loop μ-loop
+near c = c .before .before .before
+
+abbrev pair : tie.After-add-edge-arg2 Inv-loop μ-loop → tie.In-loop Inv-loop μ-loop
+pair c = near (c .before .before .before)
+
+abbrev past : tie.Joined1 Inv-loop μ-loop → tie.In-loop Inv-loop μ-loop
+past c = c .before .before
+
 add-linear-requires : tie.Need-add-linear-requires Inv-loop μ-loop
 add-linear-requires c κs =
-    let l = c .before .before .before .before .loop in
-    let s = c .before .before .before .before .before in
+    let l = near c .before .loop in
+    let s = near c .before .before in
     let k = l .inv .0 in
-    let d = c .before .before .before .loop-test .taken in
+    let d = near c .loop-test .taken in
     rw (weight-read k d) (at-low k d, gain-fits (now (s .args .lin)) (l .lin) (at k d) (weight k d) (s .pre .2 (at k d) (c .before .if1 .taken)) (l .inv .1 (at k d) (at-in k d)) (weight-small k d) (omega arith))
 
 sub-add-edge : tie.Need-sub-add-edge Inv-loop μ-loop
 sub-add-edge c =
-    let t = c .before .before .before .before .before .before in
-    let k = t .before .loop .inv .0 in
-    minus-fits (weight k (t .loop-test .taken)) (omega (arith, weight-small k (t .loop-test .taken)))
+    let k = pair c .before .loop .inv .0 in
+    let d = pair c .loop-test .taken in
+    minus-fits (weight k d) (omega (arith, weight-small k d))
 
 add-edge-requires : tie.Need-add-edge-requires Inv-loop μ-loop
 add-edge-requires c κs =
-    let t = c .before .before .before .before .before .before in
-    let k = t .before .loop .inv .0 in
-    let d = t .loop-test .taken in
+    let k = pair c .before .loop .inv .0 in
+    let d = pair c .loop-test .taken in
     let h = weight-small k d in
     rw (minus (weight k d) (omega arith)) (edge-fits k d (negℤ (weight k d)) (neg-size (weight k d) h))
 
 loop-again : tie.Need-loop-again Inv-loop μ-loop
 loop-again c =
-    let l = c .before .before .before .loop in
-    let j = c .before .before .before .before .args .j in
+    let l = past c .before .loop in
+    let j = past c .before .before .args .j in
     let k = l .inv .0 in
-    let d = c .before .before .loop-test .taken in
+    let d = past c .loop-test .taken in
     let w = weight k d in
     let h = weight-small k d in
     ⊎-elim
@@ -106,6 +114,6 @@ turn-edges-spec =
     sub-add-edge
     add-edge-requires
     (λ c. omega arith)
-    (λ c. rest-less (c .before .before .before .loop .rest) (c .before .before .loop-test .taken) (c .before .before .before .loop .inv .0 .fits))
+    (λ c. rest-less (past c .before .loop .rest) (past c .loop-test .taken) (past c .before .loop .inv .0 .fits))
     loop-again
     returns)

@@ -5,10 +5,7 @@ use Rattle.graph.proofs.drop_to.Tie as tie
 
 returns : tie.Need-returns
 unfolding dropTo
-returns c =
-    let s = c .before .before .before in
-    let w = c .wipe .ensures (s .args .f .n) (s .pre .1) (s .pre .2) in
-    (rw (w .0), w .1)
+returns c n b h s = let w = c .wipe .ensures n h s in (rw (w .0), w .1)
 
 pub drop-to-spec : {M : Type 1} → statement M
 drop-to-spec =

@@ -4,7 +4,7 @@ use Rattle.accepted_laws.specs.Mass.{mass}
 use Rattle.graph.proofs.Fixing.{fix-zero, fix-room, fix-sum, fix-one}
 use Rattle.graph.proofs.Laws.{mass-fits}
 use Rattle.graph.specs.Held.{held, withConstant}
-use Rattle.rules.specs.Graph.{lin}
+use Rattle.rules.specs.Graph.{Graph}
 use Rattle.whole.specs.Ints.{rd}
 use borrow.Author.Needs.{needs, sfits-of}
 use mir.Val.{SFits, toZ, ofZ}
@@ -18,51 +18,60 @@ use mathlib.Core.Path.{_≡_, refl, sym, ap, _∙_, subst}
 use Rattle.graph.proofs.fix.Statement.{statement}
 use Rattle.graph.proofs.fix.Tie as tie
 
+-- the graph before
+abbrev before : tie.Start → Graph
+before s = held (s .args .f) (now (s .args .lin)) (now (s .args .edges)) (now (s .args .states))
+
 returns : tie.Need-returns
 returns c =
-    let s = c .before .before .before .before .before in
+    let s = c .before .before .before .before .before .before in
     let a = s .args in
-    let f = fix-zero (a .i) (a .v) (held (a .f) (now (a .lin)) (now (a .edges))) (held (c .drop-to .result) (c .drop-to .last .0) (c .drop-to .last .1 .0)) (c .before .before .before .before .if1 .taken) (c .drop-to .ensures .0) (s .pre .0) (s .pre .2) in
-    (f .0, f .1, f .2, c .drop-to .ensures .1)
+    let d = c .drop-to .ensures (a .f .n) (a .f .constant) (s .pre .2) (s .pre .4) in
+    let f = fix-zero (a .i) (a .v) (before s) _ (c .before .before .before .before .before .if1 .taken) (d .0) (s .pre .0) (s .pre .2) in
+    (f .0, refl, f .2, d .1)
+
+-- ---- fixed to 1: where the decision has been dropped
+abbrev start : tie.After-drop-to2 → tie.Start
+start c = c .before .before .before .before .before .before .before .before .before
+
+abbrev after : tie.After-drop-to2 → Graph
+after c = held (start c .args .f) (c .drop-to2 .last .0) (c .drop-to2 .last .1 .0) (c .drop-to2 .last .1 .1 .1 .0)
+
+abbrev row : tie.After-drop-to2 → tie.After-row-of
+row c = c .before .before .before .before .before .before
 
 -- the decision's weight is read back
-read : (c : tie.After-drop-to2) → let s = c .before .before .before .before .before .before .before .before in
-    toZ w64 (ofZ w64 (getD (now (s .args .lin)) (s .args .i) (pos 0))) ≡ getD (now (s .args .lin)) (s .args .i) (pos 0)
-read c =
-    let s = c .before .before .before .before .before .before .before .before in
-    let x = getD (now (s .args .lin)) (s .args .i) (pos 0) in
-    let f : SFits w64 x = sfits-of (c .before .before .before .before .a .given) in
-    rd f
+read : (c : tie.After-drop-to2) → toZ w64 (ofZ w64 (getD (now (start c .args .lin)) (start c .args .i) (pos 0))) ≡ getD (now (start c .args .lin)) (start c .args .i) (pos 0)
+read c = let f : SFits w64 (getD (now (start c .args .lin)) (start c .args .i) (pos 0)) = sfits-of (c .before .before .before .before .before .a .given) in rd f
 
 add-constant-requires : tie.Need-add-constant-requires
 add-constant-requires c κs =
-    let s = c .before .before .before .before .before .before .before .before in
+    let s = start c in
     let a = s .args in
-    rw (read c) (mass-fits (c .drop-to2 .result .constant) (getD (now (a .lin)) (a .i) (pos 0))
-    (fix-sum (a .i) (held (a .f) (now (a .lin)) (now (a .edges))) (held (c .drop-to2 .result) (c .drop-to2 .last .0) (c .drop-to2 .last .1 .0)) (c .before .before .before .before .before .row-of .result) (c .drop-to2 .ensures .0) (s .pre .0) (s .pre .2) (c .before .before .before .before .before .row-of .ensures) (s .pre .3)))
+    let d = c .drop-to2 .ensures (a .f .n) (a .f .constant) (s .pre .2) (s .pre .4) in
+    rw (read c) (mass-fits (a .f .constant) (getD (now (a .lin)) (a .i) (pos 0)) (fix-sum (a .i) (before s) (after c) (row c .row-of .result) (d .0) (s .pre .0) (s .pre .2) (row c .row-of .ensures) (s .pre .3)))
 
 spread-requires : tie.Need-spread-requires
 spread-requires c κs =
-    let d = c .before .before .before in
-    let s = d .before .before .before .before .before .before .before .before in
-    let a = s .args in (
-      s .pre .2,
-      fix-room (a .i) (held (a .f) (now (a .lin)) (now (a .edges))) (held (d .drop-to2 .result) (d .drop-to2 .last .0) (d .drop-to2 .last .1 .0)) (d .before .before .before .before .before .row-of .result) (d .drop-to2 .ensures .0) (s .pre .0) (s .pre .2) (d .before .before .before .before .before .row-of .ensures) (s .pre .3),
-    )
+    let t = c .before .before .before in
+    let s = start t in
+    let a = s .args in
+    let d = t .drop-to2 .ensures (a .f .n) (a .f .constant) (s .pre .2) (s .pre .4) in
+    (s .pre .2, fix-room (a .i) (before s) (after t) (row t .row-of .result) (d .0) (s .pre .0) (s .pre .2) (row t .row-of .ensures) (s .pre .3))
 
 returns-2 : tie.Need-returns-2
 returns-2 c =
-    let d = c .before .before .before .before in
-    let s = d .before .before .before .before .before .before .before .before in
+    let t = c .before .before .before .before in
+    let s = start t in
     let a = s .args in
-    let one : a .v ≡ 1 = omega (arith, s .pre .1, d .before .before .before .before .before .before .before .if1 .left) in
+    let d = t .drop-to2 .ensures (a .f .n) (a .f .constant) (s .pre .2) (s .pre .4) in
+    let one : a .v ≡ 1 = omega (arith, s .pre .1, t .before .before .before .before .before .before .before .before .if1 .left) in
     let x = getD (now (a .lin)) (a .i) (pos 0) in
-    let k : c .before .before .before .add-constant .result ≡ withConstant (d .drop-to2 .result) (d .drop-to2 .result .constant +ℤ x) = c .before .before .before .add-constant .ensures ∙ ap (λ (z : ℤ). withConstant (d .drop-to2 .result) (d .drop-to2 .result .constant +ℤ z)) (read d) in
-    let f = subst (λ (f : Frame). (held f (c .spread .last .0) (d .drop-to2 .last .1 .0) ≡ rule.fix (a .i) (a .v) (held (a .f) (now (a .lin)) (now (a .edges)))) × (f .n ≡ a .f .n) × (mass (held f (c .spread .last .0) (d .drop-to2 .last .1 .0)) ≤ mass (held (a .f) (now (a .lin)) (now (a .edges)))))
+    let k : c .before .before .before .add-constant .result ≡ withConstant (a .f) (a .f .constant +ℤ x) = c .before .before .before .add-constant .ensures ∙ ap (λ (z : ℤ). withConstant (a .f) (a .f .constant +ℤ z)) (read t) in
+    let f = subst (λ (f : Frame). (held f (c .spread .last .0) (t .drop-to2 .last .1 .0) (t .drop-to2 .last .1 .1 .1 .0) ≡ rule.fix (a .i) (a .v) (before s)) × (f .n ≡ a .f .n) × (mass (held f (c .spread .last .0) (t .drop-to2 .last .1 .0) (t .drop-to2 .last .1 .1 .1 .0)) ≤ mass (before s)))
     (sym k)
-    (fix-one (a .i) (held (a .f) (now (a .lin)) (now (a .edges))) (held (d .drop-to2 .result) (d .drop-to2 .last .0) (d .drop-to2 .last .1 .0)) (d .before .before .before .before .before .row-of .result) (d .drop-to2 .ensures .0) (s .pre .0) (s .pre .2) (d .before .before .before .before .before .row-of .ensures)
-    (a .v) _ (c .spread .last .0) one refl (c .spread .ensures .0) (c .spread .ensures .1)) in
-    (f .0, f .1, f .2, d .drop-to2 .ensures .1)
+    (fix-one (a .i) (before s) (after t) (row t .row-of .result) (d .0) (s .pre .0) (s .pre .2) (row t .row-of .ensures) (a .v) _ (c .spread .last .0) one refl (c .spread .ensures .0) (c .spread .ensures .1)) in
+    (f .0, f .1, f .2, d .1)
 
 pub fix-spec : {M : Type 1} → statement M
 fix-spec =

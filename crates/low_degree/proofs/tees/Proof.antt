@@ -1,4 +1,4 @@
-use Rattle.low_degree.proofs.Laws.{read-below}
+use Rattle.low_degree.specs.TableLaws.{read-below}
 use Rattle.low_degree.specs.Table.{teesOf}
 use Rattle.whole.specs.Lists.{fill-step, fill-end}
 use Rattle.whole.specs.Words.{tab, below0}

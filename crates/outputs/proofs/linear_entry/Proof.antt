@@ -8,7 +8,6 @@ use lib.IntN.{pos}
 use lib.ListN.{getD}
 use denote.Ref.{now}
 use native.Mathlib.Omega.{arith}
-use borrow.Author.Needs.{needs}
 use Rattle.outputs.proofs.linear_entry.Statement.{statement}
 use Rattle.outputs.proofs.linear_entry.Tie as tie
 

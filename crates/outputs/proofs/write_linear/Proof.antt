@@ -3,15 +3,14 @@ use Rattle.whole.specs.Lists.{fill-none, fill-step, fill-end}
 use Rattle.whole.specs.Words.{tab}
 use Rattle.whole.specs.Ints.{rd}
 use borrow.Author.Needs.{needs, sfits-of}
-use lib.ListN.{length, set, drop, length-set}
+use lib.ListN.{length, drop, length-set}
 use denote.Ref.{now}
 use native.Mathlib.Omega.{arith}
-use mathlib.Core.List.{List, _++_}
-use mathlib.Core.Path.{_≡_, refl, ap, sym, _∙_}
-use Prim.Native.Nat.{ℕ, _≤_, _<_, _-_, _+_}
+use mathlib.Core.List.{_++_}
+use mathlib.Core.Path.{_≡_, refl, _∙_}
+use Prim.Native.Nat.{_≤_, _-_}
 use mir.Val.{ofZ, toZ, SFits}
 use mir.Syntax.{w64}
-use borrow.Author.Needs.{needs}
 use Rattle.outputs.proofs.write_linear.Statement.{statement}
 use Rattle.outputs.proofs.write_linear.Tie as tie
 

@@ -1,116 +1,183 @@
-use mathlib.Core.Path.{_≡_, refl, sym, subst}
-use mathlib.Core.Bool.{Bool, true, false, not}
-use mathlib.Core.List.{List}
-use Prim.Native.Nat.{ℕ, _-_, _<_, _≤_}
+use mathlib.Core.Path.{_≡_, refl, sym, ap, _∙_, subst}
+use mathlib.Core.Bool.{true, false}
+use Prim.Native.Nat.{ℕ, _-_, _+_, _<_, _≤_}
 use native.Mathlib.Omega.{arith}
+use lib.ListN.{take}
 use borrow.Author.Needs.{needs}
 use denote.Ref.{now}
+use Rattle.rules.specs.Outcome.{units}
 use Rattle.rules.specs.Run as rule
 use Rattle.graph.specs.Held.{held}
-use Rattle.state.specs.Holds.{Lent, lent}
-use Rattle.run.specs.Going.{Along, Ends}
-use Rattle.run.specs.GoingLaws.{going-searchable, started-few}
-use Rattle.run.specs.Along.{come, along-begin, along-cut}
-use Rattle.run.specs.declared.Come.{Come}
+use Rattle.small_block.specs.ByMasks.{blockBy}
+use Rattle.state.specs.Holds.{Arrays, arrays, graphIn}
+use Rattle.run.specs.Blocks.{dueIn}
+use Rattle.run.specs.BlocksLaws.{due-take, none-due, block-due, found-on}
+use Rattle.run.specs.Course.{Course, ToPass, Passes, Ends}
+use Rattle.run.specs.CourseLaws.{begins, used, searchable, onward, over-here, cut-here, removable}
+use Rattle.run.specs.declared.Reached.{Reached}
 use Rattle.run.specs.declared.Ended.{Ended}
 use Rattle.run.proofs.run.Statement.{statement}
 use Rattle.run.proofs.run.Tie as tie
 
 abbrev Inv-loop : tie.InvT-loop
-Inv-loop lin₀ edges₀ masks₀ switches budget ring₀ come₀ lin edges masks ring come =
-    (come .units < budget → come .state .queue .len ≡ 0)
-    × ((E : rule.Ended) → Along budget switches E come₀ (lent lin₀ edges₀ masks₀ ring₀) → Along budget switches E come (lent lin edges masks ring))
+Inv-loop lin₀ edges₀ masks₀ states₀ options budget at₀ lin edges masks states at =
+    (E : rule.Ended) → ToPass budget options E at₀ (arrays lin₀ edges₀ masks₀ states₀) → ToPass budget options E at (arrays lin edges masks states)
 
 abbrev μ-loop : tie.MeasureT-loop
-μ-loop lin₀ edges₀ masks₀ switches budget ring₀ come₀ lin edges masks ring come = budget - come .units
+μ-loop lin₀ edges₀ masks₀ states₀ options budget at₀ lin edges masks states at = budget - (at .state .takes + at .state .blocks)
 
-begin-requires : tie.Need-begin-requires Inv-loop μ-loop
-begin-requires c κs = let s = c .before .before in let a = s .args in (started-few (a .frame) (now (a .lin)) (now (a .edges)) (s .pre .0), search needs)
+loop-holds : tie.Need-loop-holds Inv-loop μ-loop
+loop-holds c = λ E p. p
 
 -- where the whole run ends
 abbrev end : tie.Start Inv-loop μ-loop → rule.Ended
-end s = let a = s .args in rule.run (a .budget) (a .switches) (rule.begin (a .switches) (held (a .frame) (now (a .lin)) (now (a .edges))))
+end s = let a = s .args in rule.run (a .budget) (a .options) (rule.begin (a .options) (held (a .frame) (now (a .lin)) (now (a .edges)) (now (a .states))))
+
+-- ---- at a turn's start
+abbrev origin : tie.At-loop Inv-loop μ-loop → tie.Start Inv-loop μ-loop
+origin m = m .before .before
+
+here : (m : tie.At-loop Inv-loop μ-loop) → ToPass (origin m .args .budget) (origin m .args .options) (end (origin m)) (m .loop .at) (arrays (m .loop .lin) (m .loop .edges) (m .loop .masks) (m .loop .states))
+here m =
+    let s = origin m in
+    let a = s .args in
+    let b = m .before .start-at in
+    m .loop .inv (end s) (begins (a .budget) (a .options) (a .frame) (b .result .state) (b .result .steps) (now (a .lin)) (now (a .edges)) (now (a .masks)) (now (a .states)) (s .pre .0) (s .pre .1) (b .ensures .0) (b .ensures .1))
 
 pass-requires : tie.Need-pass-requires Inv-loop μ-loop
-pass-requires c κs =
-    let n = c .before .before .before .before in
-    let b = n .before in
-    let s = b .before .before .before in
-    let a = s .args in
-    (end s, along-begin (a .budget) (a .switches) (a .frame) (b .begin .result) (n .no-steps .result) (now (a .lin)) (now (a .edges)) (now (a .masks)) _ (s .pre .0) (b .begin .ensures .0 (now (a .lin)) (now (a .edges)) (s .pre .1)) (n .no-steps .ensures))
+pass-requires c κs = let m = c .before .before .before .before in (end (origin m), here m)
 
--- the first pass is on the way there
+-- ---- a pass is over
 module _ (p : tie.After-pass Inv-loop μ-loop) where
-  abbrev start : tie.Start Inv-loop μ-loop
-  start = p .before .before .before .before .before .before .before .before .before
+  abbrev turn : tie.At-loop Inv-loop μ-loop
+  turn = p .before .before .before .before .before
 
-  first : let s = p .before .before .before .before .before .before .before .before .before in
-      Along (s .args .budget) (s .args .switches) (end s) (p .pass .result) (lent (p .pass .last .0) (p .pass .last .1 .0) (p .pass .last .1 .1 .0) (p .pass .last .1 .1 .1 .0))
-  first =
-      let n = p .before .before .before .before .before in
-      let b = n .before in
-      let a = start .args in
-      p .pass .ensures .0 (end start) (along-begin (a .budget) (a .switches) (a .frame) (b .begin .result) (n .no-steps .result) (now (a .lin)) (now (a .edges)) (now (a .masks)) _ (start .pre .0) (b .begin .ensures .0 (now (a .lin)) (now (a .edges)) (start .pre .1)) (n .no-steps .ensures))
+  abbrev after : Arrays
+  after = arrays (p .pass .last .0) (p .pass .last .1 .0) (p .pass .last .1 .1 .0) (p .pass .last .1 .1 .1 .0)
 
-loop-holds : tie.Need-loop-holds Inv-loop μ-loop
-loop-holds c = (c .pass .ensures .2, λ E a. a)
+  passes : Passes (origin turn .args .budget) (origin turn .args .options) (end (origin turn)) (p .pass .result) after
+  passes = p .pass .ensures .0 (end (origin turn)) (here turn)
 
--- and so is every turn
-module _ (m : tie.At-loop Inv-loop μ-loop) where
-  abbrev origin : tie.Start Inv-loop μ-loop
-  origin = start (m .before)
+  -- its course, and the units that it has used
+  abbrev course : Course (origin turn .args .budget) (origin turn .args .options) (end (origin turn)) (passes .state) (p .pass .result .reached .state) (p .pass .result .reached .steps) after
+  course = passes .course
 
-  here : let s = start (m .before) in Along (s .args .budget) (s .args .switches) (end s) (m .loop .come) (lent (m .loop .lin) (m .loop .edges) (m .loop .masks) (m .loop .ring))
-  here = m .loop .inv .1 (end origin) (first (m .before))
+  spent : p .pass .result .reached .state .takes + p .pass .result .reached .state .blocks ≡ units (passes .state)
+  spent = used _ _ _ (passes .state) (p .pass .result .reached .state) (p .pass .result .reached .steps) after (passes .course)
 
-turn-requires : tie.Need-turn-requires Inv-loop μ-loop
-turn-requires c κs =
-    let m = c .before .before .before .before .before .before in
-    let less = c .before .before .before .before .if1 .taken in
-    ((end (origin m), here m), less, m .loop .inv .0 less)
+  ends-as : (r : Ended) (done : Ended) → r ≡ done → Ends (end (origin turn)) done after → Ends (end (origin turn)) r after
+  ends-as r done e h = subst (λ (x : Ended). Ends (end (origin turn)) x after) (sym e) h
 
-pass-requires-2 : tie.Need-pass-requires-2 Inv-loop μ-loop
-pass-requires-2 c κs =
-    let t = c .before .before .before .before .before .before in
-    let m = t .before .before .before .before .before .before .before in
-    (end (origin m), t .turn .ensures .0 (end (origin m)) (here m) .goes (c .before .before .before .before .if2 .taken))
-
-loop-less : tie.Need-loop-less Inv-loop μ-loop
-loop-less c =
-    let t = c .before .before .before .before .before .before .before in
-    omega (arith, t .before .before .before .before .before .if1 .taken, c .pass2 .ensures .1, t .turn .ensures .1 (c .before .before .before .before .before .if2 .taken))
-
-loop-again : tie.Need-loop-again Inv-loop μ-loop
-loop-again c =
-    let t = c .before .before .before .before .before .before .before in
-    let m = t .before .before .before .before .before .before .before in
-    (c .pass2 .ensures .2, λ E a. c .pass2 .ensures .0 E (t .turn .ensures .0 E (m .loop .inv .1 E a) .goes (c .before .before .before .before .before .if2 .taken)))
-
+-- someone waits and no unit is left
 returns : tie.Need-returns Inv-loop μ-loop
 returns c =
-    let t = c .before .before .before in
-    let m = t .before .before .before .before .before .before .before in (
-      t .turn .last .1 .1 .1 .0,
-      subst (λ (r : Ended). Ends (end (origin m)) r (lent (t .turn .last .0) (t .turn .last .1 .0) (t .turn .last .1 .1 .0) (t .turn .last .1 .1 .1 .0))) (sym (c .ends-at .ensures))
-          (t .turn .ensures .0 (end (origin m)) (here m) .ends (c .before .if2 .left)),
-    )
+    let one = c .before in
+    let p = one .before .before in
+    let q = passes p in
+    let w = q .someone (one .if1 .taken) in
+    ends-as p _ _ (c .ends-at .ensures) (cut-here _ _ _ (q .state) _ _ (after p) (q .course) _ (due-take _ (q .state) (w .0) (w .1 .0) (w .1 .1)) (q .spent (one .if1 .taken)))
 
-is-due-requires : tie.Need-is-due-requires Inv-loop μ-loop
-is-due-requires c κs =
-    let m = c .before .before .before in
-    going-searchable (m .loop .come .state) (lent (m .loop .lin) (m .loop .edges) (m .loop .masks) (m .loop .ring)) (here m .going)
+due-block-requires : tie.Need-due-block-requires Inv-loop μ-loop
+due-block-requires c κs =
+    let p = c .before .before .before .before in
+    searchable _ _ _ (passes p .state) _ _ (after p) (passes p .course)
 
+-- ---- what the search found
+module _ (d : tie.After-due-block Inv-loop μ-loop) where
+  abbrev over : tie.Else1 Inv-loop μ-loop
+  over = d .before .before .before
+
+  abbrev past : tie.After-pass Inv-loop μ-loop
+  past = over .before .before
+
+  is : blockBy (d .due-block .result .order) (d .due-block .result .count) ≡ dueIn (origin (turn past) .args .options) (graphIn (past .pass .result .reached .state) (after past))
+  is = let f = past .pass .result .reached .state .frame in d .due-block .ensures .is (f .constant) (past .pass .last .0) (past .pass .last .1 .0) (passes past .course .holds .shown)
+
+  -- of the rules' graph
+  found : blockBy (d .due-block .result .order) (d .due-block .result .count) ≡ dueIn (origin (turn past) .args .options) (passes past .state .graph)
+  found = is ∙ ap (dueIn (origin (turn past) .args .options)) (passes past .course .holds .graph)
+
+-- nothing is due
 returns-2 : tie.Need-returns-2 Inv-loop μ-loop
 returns-2 c =
-    let d = c .before in
-    let m = d .before .before .before .before in
-    let l = m .loop in
-    let w = lent (l .lin) (l .edges) (l .masks) (l .ring) in (
-      l .ring,
-      subst (λ (r : Ended). Ends (end (origin m)) r (lent (l .lin) (l .edges) (l .masks) (l .ring))) (sym (c .ends-at2 .ensures))
-          (along-cut _ _ (end (origin m)) (l .come .state) (l .come .steps) (l .come .units) w (here m) (d .is-due .result) (omega (arith, d .before .before .if1 .left))
-          (d .is-due .ensures (here m .going .state) (l .lin) (l .masks) (l .ring) (here m .going .holds))),
-    )
+    let two = c .before in
+    let d = two .before .before in
+    let p = past d in
+    let q = passes p in
+    ends-as p _ _ (c .ends-at2 .ensures) (over-here _ _ _ (q .state) _ _ (after p) (q .course) (none-due _ (q .state) (q .nobody (over d .if1 .left)) _ _ (found d) (two .if2 .taken)))
+
+units-requires : tie.Need-units-requires Inv-loop μ-loop
+units-requires c κs =
+    let d = c .before .before in
+    let p = past d in
+    omega (arith, spent p, passes p .course .few, origin (turn p) .fits .budget)
+
+-- a block is due
+due : (two : tie.Else2 Inv-loop μ-loop) → let d = two .before .before in let q = passes (past d) in
+    rule.next (origin (turn (past d)) .args .options) (q .state) ≡ rule.due (rule.blocked (origin (turn (past d)) .args .options) (take (d .due-block .result .count) (d .due-block .result .order)) (q .state))
+due two = let d = two .before .before in let q = passes (past d) in block-due _ (q .state) (q .nobody (over d .if1 .left)) _ _ (found d) (two .if2 .left)
+
+-- and no unit is left
+returns-3 : tie.Need-returns-3 Inv-loop μ-loop
+returns-3 c =
+    let three = c .before in
+    let u = three .before in
+    let two = u .before in
+    let p = past (two .before .before) in
+    let q = passes p in
+    ends-as p _ _ (c .ends-at3 .ensures) (cut-here _ _ _ (q .state) _ _ (after p) (q .course) _ (due two) (sym (spent p) ∙ sym (u .units .ensures) ∙ three .if3 .taken))
+
+-- a unit is left
+less : (three : tie.Else3 Inv-loop μ-loop) → let p = past (three .before .before .before .before) in units (passes p .state) < origin (turn p) .args .budget
+less three =
+    let u = three .before in
+    let p = past (u .before .before .before) in
+    omega (arith, spent p, passes p .course .few, u .units .ensures, three .if3 .left)
+
+take-block-requires : tie.Need-take-block-requires Inv-loop μ-loop
+take-block-requires c κs =
+    let three = c .before .before .before .before in
+    let two = three .before .before in
+    let d = two .before .before in
+    let p = past d in
+    let q = passes p in
+    let r = d .due-block .result in
+    removable _ _ _ (q .state) (p .pass .result .reached .state) (p .pass .result .reached .steps) (after p) (q .course) (r .order) (r .count) (d .due-block .ensures .long)
+    (found-on (origin (turn p) .args .options) (r .order) (r .count) (graphIn (p .pass .result .reached .state) (after p)) (is d) (two .if2 .left)) (two .if2 .left) (omega (arith, spent p, less three, origin (turn p) .fits .budget))
+
+-- the block is gone
+abbrev left : tie.After-take-block Inv-loop μ-loop → tie.Else3 Inv-loop μ-loop
+left k = k .before .before .before .before .before
+
+loop-less : tie.Need-loop-less Inv-loop μ-loop
+unfolding rule.blocked
+loop-less c =
+    let three = left c in
+    let p = past (three .before .before .before .before) in
+    let q = passes p in
+    let h = c .take-block .ensures (origin (turn p) .args .options) (q .state) (q .course .holds) in
+    omega (arith, p .pass .ensures .1, spent p, less three, h .takes, h .blocks)
+
+loop-again : tie.Need-loop-again Inv-loop μ-loop
+unfolding rule.blocked
+loop-again c = λ E a.
+    let three = left c in
+    let two = three .before .before in
+    let d = two .before .before in
+    let p = past d in
+    let m = turn p in
+    let opt = origin m .args .options in
+    let q = p .pass .ensures .0 E (m .loop .inv E a) in
+    let r = d .due-block .result in
+    let T = rule.blocked opt (take (r .count) (r .order)) (q .state) in
+    let f = d .due-block .ensures .is (p .pass .result .reached .state .frame .constant) (p .pass .last .0) (p .pass .last .1 .0) (q .course .holds .shown) ∙ ap (dueIn opt) (q .course .holds .graph) in
+    let u = used _ _ E (q .state) (p .pass .result .reached .state) (p .pass .result .reached .steps) (after p) (q .course) in
+    record {
+      state = T;
+      course = onward _ _ E (q .state) (p .pass .result .reached .state) (p .pass .result .reached .steps) (after p) (q .course) T _ _ _ (omega (arith, spent p, less three, u))
+          (block-due opt (q .state) (q .nobody (over d .if1 .left)) (r .order) (r .count) f (two .if2 .left)) (c .take-block .ensures opt (q .state) (q .course .holds));
+      queued = refl;
+    }
 
 pub run-spec : {M : Type 1} → statement M
 run-spec =
@@ -118,16 +185,17 @@ run-spec =
     (tie.spec
     Inv-loop
     μ-loop
-    begin-requires
     (λ c κs. search needs)
-    pass-requires
     loop-holds
-    turn-requires
-    pass-requires-2
-    loop-less
-    loop-again
+    pass-requires
     (λ c κs. search needs)
     returns
-    is-due-requires
+    due-block-requires
     (λ c κs. search needs)
-    returns-2)
+    returns-2
+    units-requires
+    (λ c κs. search needs)
+    returns-3
+    take-block-requires
+    loop-less
+    loop-again)

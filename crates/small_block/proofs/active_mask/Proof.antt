@@ -9,30 +9,18 @@ use denote.Ref.{now}
 use lib.Bits.{or-lt}
 use lib.ListN.{getD}
 use lib.Dec.{eqb}
-use Rattle.small_block.specs.Tables.{Marks, marks-none, marks-yes, marks-no, marks-list}
+use Rattle.small_block.specs.Gathered.{Scanned, scanned-none, scanned-yes, scanned-no, scanned-all}
 use Rattle.small_block.proofs.active_mask.Statement.{statement}
 use Rattle.small_block.proofs.active_mask.Tie as tie
 
 abbrev Inv-loop : tie.InvT-loop
-Inv-loop states n m₀ j₀ m j = (j ≤ n) × (m < 2 ^ 64) × Marks (λ i. eqb (getD states i 0) 2) j m
+Inv-loop states n m₀ j₀ m j = (j ≤ n) × (m < 2 ^ 64) × Scanned (λ i. eqb (getD states i 0) 2) j m
 
 abbrev μ-loop : tie.MeasureT-loop
 μ-loop states n m₀ j₀ m j = n - j
 
 loop-holds : tie.Need-loop-holds Inv-loop μ-loop
-loop-holds c = (omega arith, omega arith, marks-none _)
-
-element-copy-out-if1 : tie.Need-element-copy-out-if1 Inv-loop μ-loop
-element-copy-out-if1 c = search needs
-
-single-requires : tie.Need-single-requires Inv-loop μ-loop
-single-requires c κs = search needs
-
-add-j : tie.Need-add-j Inv-loop μ-loop
-add-j c = search needs
-
-loop-less : tie.Need-loop-less Inv-loop μ-loop
-loop-less c = search needs
+loop-holds c = (omega arith, omega arith, scanned-none _)
 
 loop-again : tie.Need-loop-again Inv-loop μ-loop
 loop-again c =
@@ -42,8 +30,8 @@ loop-again c =
     ⊎-elim
     (λ w.
     let one : w .1 .result < 2 ^ 64 = omega arith in
-    rw (w .2) (omega arith, or-lt 64 (l .m) (w .1 .result) (l .inv .1) one, marks-yes p (l .j) (l .m) (w .1 .result) (l .inv .2) (w .1 .ensures) (eq-eqb (getD (now (a .states)) (l .j) 0) 2 (w .0 .taken))))
-    (λ w. rw (w .1) (omega arith, l .inv .1, marks-no p (l .j) (l .m) (l .inv .2) (ne-eqb (getD (now (a .states)) (l .j) 0) 2 (w .0 .left))))
+    rw (w .2) (omega arith, or-lt 64 (l .m) (w .1 .result) (l .inv .1) one, scanned-yes p (l .j) (l .m) (l .inv .2) (w .1 .result) (w .1 .ensures) (eq-eqb (getD (now (a .states)) (l .j) 0) 2 (w .0 .taken))))
+    (λ w. rw (w .1) (omega arith, l .inv .1, scanned-no p (l .j) (l .m) (l .inv .2) (ne-eqb (getD (now (a .states)) (l .j) 0) 2 (w .0 .left))))
     (c .if1 .came)
 
 returns : tie.Need-returns Inv-loop μ-loop
@@ -52,7 +40,7 @@ returns c =
     let a = c .before .before .args in
     let p : ℕ → Bool = λ i. eqb (getD (now (a .states)) i 0) 2 in
     let last : l .j ≡ a .n = omega arith in
-    marks-list p (a .n) (l .m) (c .before .before .pre) (subst (λ (k : ℕ). Marks p k (l .m)) last (l .inv .2))
+    scanned-all p (a .n) (l .m) (subst (λ (k : ℕ). Scanned p k (l .m)) last (l .inv .2)) (c .before .before .pre)
 
 pub active-mask-spec : {M : Type 1} → statement M
 active-mask-spec =
@@ -61,9 +49,9 @@ active-mask-spec =
     Inv-loop
     μ-loop
     loop-holds
-    element-copy-out-if1
-    single-requires
-    add-j
-    loop-less
+    (λ c. search needs)
+    (λ c κs. search needs)
+    (λ c. search needs)
+    (λ c. search needs)
     loop-again
     returns)

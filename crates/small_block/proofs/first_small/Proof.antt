@@ -7,7 +7,7 @@ use borrow.Author.Tests.{not-true, not-false}
 use lib.Count.{trailing-le}
 use lib.Bits.{or-lt}
 use Rattle.whole.specs.Masks.{these, Turn, turn}
-use Rattle.small_block.specs.Held.{nearBy, removedBy}
+use Rattle.small_block.specs.ByMasks.{nearBy, removedBy}
 use Rattle.small_block.specs.Seeking.{Seeking, seek-none, seek-skip, seek-free, seek-found, seek-on, no-block}
 use Rattle.small_block.proofs.first_small.Statement.{statement}
 use Rattle.small_block.proofs.first_small.Tie as tie
@@ -17,9 +17,6 @@ Inv-loop near live c removed rest₀ seen₀ rest seen = (rest < 2 ^ 64) × (see
 
 abbrev μ-loop : tie.MeasureT-loop
 μ-loop near live c removed rest₀ seen₀ rest seen = rest
-
-set-aside-requires : tie.Need-set-aside-requires Inv-loop μ-loop
-set-aside-requires c κs = search needs
 
 loop-holds : tie.Need-loop-holds Inv-loop μ-loop
 loop-holds c =
@@ -42,9 +39,6 @@ grow-requires c κs =
     let t = c .before .before in
     let s = t .before .before .before in
     (s .pre .0, s .pre .1, at t .below, seek-free (t .before .loop .inv .2) (t .loop-test .taken) (t .before .loop .inv .0) (sym (c .before .has .ensures) ∙ not-true (c .before .has .result) (c .if1 .taken)))
-
-is-small-requires : tie.Need-is-small-requires Inv-loop μ-loop
-is-small-requires c κs = search needs
 
 returns : tie.Need-returns Inv-loop μ-loop
 returns c =
@@ -79,9 +73,6 @@ loop-again-2 c =
     let t = c .before .before in
     (at t .smaller, t .before .loop .inv .1, seek-skip (t .before .loop .inv .2) (t .loop-test .taken) (t .before .loop .inv .0) (sym (c .before .has .ensures) ∙ not-false (c .before .has .result) (c .if1 .left)))
 
-no-block-requires : tie.Need-no-block-requires Inv-loop μ-loop
-no-block-requires c κs = search needs
-
 returns-2 : tie.Need-returns-2 Inv-loop μ-loop
 returns-2 c =
     let l = c .before .before .loop in (
@@ -95,17 +86,17 @@ first-small-spec =
     (tie.spec
     Inv-loop
     μ-loop
-    set-aside-requires
+    (λ c κs. search needs)
     loop-holds
     cast-s
     sub-rest
     has-requires
     grow-requires
-    is-small-requires
+    (λ c κs. search needs)
     returns
     loop-less
     loop-again
     loop-less-2
     loop-again-2
-    no-block-requires
+    (λ c κs. search needs)
     returns-2)

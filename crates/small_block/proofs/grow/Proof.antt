@@ -6,33 +6,24 @@ use native.Mathlib.Omega.{arith}
 use borrow.Author.Needs.{needs}
 use lib.ListN.{length, getD, take, length-append}
 use lib.Seq.{length-take-le, getD-take}
-use lib.Bits.{bitAnd, bitOr, bitXor}
+use lib.Bits.{bitOr}
 use Rattle.whole.specs.Words.{mem, bit}
 use Rattle.cost_laws.specs.Growth.{begins}
 use Rattle.whole.specs.Members.{mem-append, apart-at}
-use Rattle.whole.specs.Masks.{bit-or, bit-single, these}
+use Rattle.whole.specs.Masks.{bit-or, bit-single, these, without}
 use denote.Ref.{now}
 use lib.Dec.{eqb}
-use Rattle.small_block.specs.Held.{nearBy, removedBy}
-use Rattle.small_block.specs.Going.{Going, going-apart, going-few, going-end, going-turn, found-fresh, found-marks}
+use Rattle.small_block.specs.ByMasks.{nearBy, removedBy}
+use Rattle.small_block.specs.Explored.{Explored, explored-apart, explored-few, explored-end, explored-turn, found-fresh, found-marks}
 use Rattle.small_block.proofs.grow.Statement.{statement}
 use Rattle.small_block.proofs.grow.Tie as tie
 
 abbrev Inv-loop : tie.InvT-loop
 Inv-loop near c removed seed order₀ count₀ seen₀ done₀ order count seen done =
-    (done ≤ count) × (count ≤ 64) × (length order ≡ 64) × Going (nearBy near) (c ∷ removedBy removed) seed (take count order) done seen
+    (done ≤ count) × (count ≤ 64) × (length order ≡ 64) × Explored (nearBy near) (c ∷ removedBy removed) seed (take count order) done seen
 
 abbrev μ-loop : tie.MeasureT-loop
 μ-loop near c removed seed order₀ count₀ seen₀ done₀ order count seen done = 64 - done
-
-array-write-order : tie.Need-array-write-order Inv-loop μ-loop
-array-write-order c = search needs
-
-set-aside-requires : tie.Need-set-aside-requires Inv-loop μ-loop
-set-aside-requires c κs = search needs
-
-single-requires : tie.Need-single-requires Inv-loop μ-loop
-single-requires c κs = search needs
 
 loop-holds : tie.Need-loop-holds Inv-loop μ-loop
 unfolding mem
@@ -66,17 +57,17 @@ module _ (c : tie.In-loop Inv-loop μ-loop) where
   here = getD-take (c .before .loop .count) (c .before .loop .order) (c .before .loop .done) 0 (c .loop-test .taken)
 
   low : getD (c .before .loop .order) (c .before .loop .done) 0 < 64
-  low = subst (λ (k : ℕ). k < 64) here (apart-at 64 found-so-far (c .before .loop .done) (going-apart (c .before .loop .inv .3)) in-turn)
+  low = subst (λ (k : ℕ). k < 64) here (apart-at 64 found-so-far (c .before .loop .done) (explored-apart (c .before .loop .inv .3)) in-turn)
 
   abbrev masks : List ℕ
   masks = now (c .before .before .before .before .args .near)
 
   -- the mask of what is found at k
   abbrev finds : ℕ → ℕ
-  finds k = bitXor (getD masks k 0) (bitAnd (getD masks k 0) (c .before .loop .seen))
+  finds k = without (getD masks k 0) (c .before .loop .seen)
 
   abbrev At : List ℕ → ℕ → Type 0
-  At xs m = Going (nearBy masks) (c .before .before .before .before .args .c ∷ removedBy (c .before .before .before .before .args .removed)) (c .before .before .before .before .args .seed) xs (c .before .loop .done + 1) (bitOr (c .before .loop .seen) m)
+  At xs m = Explored (nearBy masks) (c .before .before .before .before .args .c ∷ removedBy (c .before .before .before .before .args .removed)) (c .before .before .before .before .args .seed) xs (c .before .loop .done + 1) (bitOr (c .before .loop .seen) m)
 
   next : At (found-so-far ++ these (finds (getD (c .before .loop .order) (c .before .loop .done) 0))) (finds (getD (c .before .loop .order) (c .before .loop .done) 0))
   next =
@@ -84,10 +75,10 @@ module _ (c : tie.In-loop Inv-loop μ-loop) where
       let k = getD found-so-far (c .before .loop .done) 0 in
       subst (λ (k : ℕ). At (found-so-far ++ these (finds k)) (finds k)) here
       (subst (λ (xs : List ℕ). At (found-so-far ++ xs) (finds k)) (sym (found-fresh masks w k))
-      (going-turn w (c .before .before .before .before .pre .0) in-turn (finds k) (found-marks masks w k)))
+      (explored-turn w (c .before .before .before .before .pre .0) in-turn (finds k) (found-marks masks w k)))
 
   room : c .before .loop .count + length (these (finds (getD (c .before .loop .order) (c .before .loop .done) 0))) ≤ 64
-  room = omega (arith, going-few next, length-append found-so-far (these (finds (getD (c .before .loop .order) (c .before .loop .done) 0))), length-so-far)
+  room = omega (arith, explored-few next, length-append found-so-far (these (finds (getD (c .before .loop .order) (c .before .loop .done) 0))), length-so-far)
 
 mul-i : tie.Need-mul-i Inv-loop μ-loop
 mul-i c = omega arith
@@ -101,8 +92,13 @@ mul-a c = omega (arith, low c)
 element-copy-out-a : tie.Need-element-copy-out-a Inv-loop μ-loop
 element-copy-out-a c = low c
 
+-- what is found has room
+found : (w : tie.After-without Inv-loop μ-loop) → let t = w .before .before in
+    (t .before .loop .count + length (these (w .without .result)) ≤ 64) × At t (found-so-far t ++ these (w .without .result)) (w .without .result)
+found w = let t = w .before .before in rw (w .without .ensures) (room t, next t)
+
 join-requires : tie.Need-join-requires Inv-loop μ-loop
-join-requires c κs = (c .before .before .before .loop .inv .2, room (c .before .before))
+join-requires c κs = (c .before .before .before .before .loop .inv .2, found (c .before) .0)
 
 add-done : tie.Need-add-done Inv-loop μ-loop
 add-done c = omega arith
@@ -112,11 +108,12 @@ loop-less c = omega arith
 
 loop-again : tie.Need-loop-again Inv-loop μ-loop
 loop-again c =
-    let t = c .before .before .before in (
+    let w = c .before .before in
+    let t = w .before .before in (
       omega arith,
-      omega (arith, room t),
+      omega (arith, found w .0),
       c .join .ensures .0,
-      subst (λ (xs : List ℕ). At t xs (finds t (getD (t .before .loop .order) (t .before .loop .done) 0))) (sym (c .join .ensures .2)) (next t),
+      subst (λ (xs : List ℕ). At t xs (w .without .result)) (sym (c .join .ensures .2)) (found w .1),
     )
 
 returns : tie.Need-returns Inv-loop μ-loop
@@ -124,7 +121,7 @@ returns c =
     let l = c .before .loop in
     let long : length (take (l .count) (l .order)) ≡ l .count = length-take-le (l .count) (l .order) (omega arith) in
     let whole : length (take (l .count) (l .order)) ≡ l .done = omega arith in
-    let same = going-end (l .inv .3) whole in
+    let same = explored-end (l .inv .3) whole in
     record {
       few = l .inv .1;
       long = l .inv .2;
@@ -139,14 +136,15 @@ grow-spec =
     (tie.spec
     Inv-loop
     μ-loop
-    array-write-order
-    set-aside-requires
-    single-requires
+    (λ c. search needs)
+    (λ c κs. search needs)
+    (λ c κs. search needs)
     loop-holds
     mul-i
     array-read-i
     mul-a
     element-copy-out-a
+    (λ c κs. search needs)
     join-requires
     add-done
     loop-less
