@@ -14,7 +14,7 @@ use Rattle.rules.specs.DegreeThree.{moebius, pairs, addPairs, absorb3, eliminat
 use Rattle.cost_laws.specs.Growth.{neighbours-apart}
 use Rattle.cost_laws.specs.DegreeThreeLaws.{Triple, triple-of}
 use Rattle.graph.specs.Held.{held, withConstant, DoesEdges}
-use Rattle.graph.specs.Near.{nearOf}
+use Rattle.graph.specs.Near.{nearAt}
 use Rattle.graph.specs.NearLaws.{near-count, near-list, near-whole}
 use Rattle.graph.specs.declared.Frame.{Frame}
 use Rattle.graph.specs.declared.Near.{Near}
@@ -37,7 +37,7 @@ unfolding absorb3 addPairs
 absorb-same e u near js g h n =
     rw (h 0 (omega arith), h 1 (omega arith), h 2 (omega arith), h 3 (omega arith), h 4 (omega arith), h 5 (omega arith), h 6 (omega arith), n 0 (omega arith), n 1 (omega arith), n 2 (omega arith))
 
-module _ (g : Graph) (i : ℕ) (near : Near) (is : near ≡ nearOf g i) where
+module _ (g : Graph) (i : ℕ) (near : Near) (is : near ≡ nearAt g i) where
   -- the three are decisions, and different
   pub near-triple : near .count ≡ 3 → g .n ≤ 64 → Triple 64 (near .list)
   near-triple h few = subst (Triple 64) (sym (near-whole g i near is h)) (triple-of (apart-wider few (neighbours-apart g i)) (sym (near-count g i near is) ∙ h))

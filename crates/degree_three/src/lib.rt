@@ -12,7 +12,7 @@ ghost use Rattle.rules.specs.Record.{hold, noStep};
 ghost use Rattle.rules.specs.Size.{Within};
 ghost use Rattle.cost_laws.specs.DegreeThreeLaws.{Triple};
 ghost use Rattle.graph.specs.Held.{held, DoesEdges};
-ghost use Rattle.graph.specs.Near.{nearOf};
+ghost use Rattle.graph.specs.Near.{nearAt};
 ghost use Rattle.graph.specs.Shows.{Shows};
 ghost use Rattle.accepted_laws.specs.Small.{Small};
 ghost use Rattle.degree_three.specs.Pairs.{pairAt};
@@ -149,7 +149,7 @@ pub fn eliminate_three(
     near: graph::Near,
     i: usize,
 ) -> Tried
-    requires { ⌜ (i < 64) × (f .n ≤ 64) × Within (held f (now lin) (now edges) (now states)) × (near ≡ nearOf (held f (now lin) (now edges) (now states)) i) × (near .count ≡ 3) × Shows (f .n) (now edges) (now masks) ⌝ }
+    requires { ⌜ (i < 64) × (f .n ≤ 64) × Within (held f (now lin) (now edges) (now states)) × (near ≡ nearAt (held f (now lin) (now edges) (now states)) i) × (near .count ≡ 3) × Shows (f .n) (now edges) (now masks) ⌝ }
     ensures { λ r. ⌜ (r .cubic ≡ cubic (held f (now (lin .entry)) (now (edges .entry)) (now (states .entry))) i)
         × (held (r .frame) (now (lin .exit)) (now (edges .exit)) (now (states .exit)) ≡ cond (cubic (held f (now (lin .entry)) (now (edges .entry)) (now (states .entry))) i) (held f (now (lin .entry)) (now (edges .entry)) (now (states .entry))) (eliminate3 i (held f (now (lin .entry)) (now (edges .entry)) (now (states .entry)))))
         × Shows (f .n) (now (edges .exit)) (now (masks .exit))

@@ -12,7 +12,7 @@ use lib.IntN.{ℤ, pos}
 use Rattle.whole.specs.Pigeon.{pigeon}
 use Rattle.whole.specs.Masks.{these, these-end, these-apart, turn}
 use Rattle.rules.specs.Graph.{graph}
-use Rattle.graph.specs.Near.{nearAmong, nearOf}
+use Rattle.graph.specs.Near.{nearAmong, nearAt}
 use Rattle.graph.specs.NearLaws.{near-more, near-full}
 use Rattle.graph.specs.Shows.{Shows}
 use Rattle.graph.specs.ShowsLaws.{shown}
@@ -28,8 +28,8 @@ pub nearing-begin : (e : List ℤ) (i mask : ℕ) → Nearing e i mask (nearAmon
 nearing-begin e i mask = record { past = []; all = refl; is = refl }
 
 module _ (e : List ℤ) (i mask : ℕ) (r : Near) (rest : ℕ) (w : Nearing e i mask r rest) where
-  pub nearing-end : (n : ℕ) (m : List ℕ) → n ≤ 64 → Shows n e m → i < 64 → mask ≡ getD m i 0 → rest ≡ 0 → (c : ℤ) (l : List ℤ) (ss : List ℕ) → r ≡ nearOf (graph n c l e ss) i
-  unfolding nearOf
+  pub nearing-end : (n : ℕ) (m : List ℕ) → n ≤ 64 → Shows n e m → i < 64 → mask ≡ getD m i 0 → rest ≡ 0 → (c : ℤ) (l : List ℤ) (ss : List ℕ) → r ≡ nearAt (graph n c l e ss) i
+  unfolding nearAt
   nearing-end n m h s hi k z c l ss =
       w .is ∙ ap (nearAmong e i)
       (sym (append-nil (w .past)) ∙ ap (λ (xs : List ℕ). w .past ++ xs) (sym (these-end rest z)) ∙ w .all ∙ ap these k ∙ shown n e m s h c l ss i hi)

@@ -16,9 +16,9 @@ three xs z = getD xs 0 z ∷ getD xs 1 z ∷ getD xs 2 z ∷ []
 abbrev pub nearAmong : List ℤ → ℕ → List ℕ → Near
 nearAmong e i js = record { list = three js 0; weights = three (map (λ j. getD e (64 * i + j) (pos 0)) js) (pos 0); count = length js }
 
-unfoldable pub nearOf : Graph → ℕ → Near
-nearOf g i = nearAmong (g .edges) i (neighbours g i)
+unfoldable pub nearAt : Graph → ℕ → Near
+nearAt g i = nearAmong (g .edges) i (neighbours g i)
 
 -- what is near i in these edges, whatever else the graph has
 abbrev pub Nears : Near → List ℤ → ℕ → ℕ → Type 0
-Nears r e n i = (c : ℤ) (l : List ℤ) (ss : List ℕ) → r ≡ nearOf (graph n c l e ss) i
+Nears r e n i = (c : ℤ) (l : List ℤ) (ss : List ℕ) → r ≡ nearAt (graph n c l e ss) i

@@ -12,7 +12,7 @@ use Rattle.whole.specs.Lists.{held-whole}
 use Rattle.whole.specs.Members.{in-at, low-at}
 use Rattle.rules.specs.Graph.{Graph, row, neighbours}
 use Rattle.cost_laws.specs.Growth.{neighbours-apart, in-nbrs}
-use Rattle.graph.specs.Near.{three, nearAmong, nearOf}
+use Rattle.graph.specs.Near.{three, nearAmong, nearAt}
 use Rattle.graph.specs.declared.Near.{Near}
 
 -- ---- the first three of a list
@@ -82,26 +82,26 @@ mem-inside g i t h = in-nbrs g i t h .0
 pub neighbour-inside : (g : Graph) (i k : ℕ) → k < length (neighbours g i) → getD (neighbours g i) k 0 < g .n
 neighbour-inside g i k h = mem-inside g i (getD (neighbours g i) k 0) (in-at (neighbours g i) k h)
 
-module _ (g : Graph) (i : ℕ) (near : Near) (is : near ≡ nearOf g i) where
+module _ (g : Graph) (i : ℕ) (near : Near) (is : near ≡ nearAt g i) where
   pub near-count : near .count ≡ length (neighbours g i)
-  unfolding nearOf
+  unfolding nearAt
   near-count = ap (λ (x : Near). x .count) is
 
   pub near-list : (k : ℕ) → k < 3 → getD (near .list) k 0 ≡ getD (neighbours g i) k 0
-  unfolding nearOf
+  unfolding nearAt
   near-list k h = ap (λ (x : Near). getD (x .list) k 0) is ∙ three-at 0 (neighbours g i) k h
 
   -- where there are three, they are the whole list
   pub near-whole : near .count ≡ 3 → near .list ≡ neighbours g i
-  unfolding nearOf
+  unfolding nearAt
   near-whole h = ap (λ (x : Near). x .list) is ∙ three-whole 0 (neighbours g i) (sym near-count ∙ h)
 
   pub near-weights : (k : ℕ) → k < 3 → getD (near .weights) k (pos 0) ≡ getD (row g i (neighbours g i)) k (pos 0)
-  unfolding nearOf
+  unfolding nearAt
   near-weights k h = ap (λ (x : Near). getD (x .weights) k (pos 0)) is ∙ three-at (pos 0) (row g i (neighbours g i)) k h
 
   pub near-below : g .n ≤ 64 → (k : ℕ) → getD (near .list) k 0 < 64
-  unfolding nearOf
+  unfolding nearAt
   near-below h zero = rw (near-list 0 (omega arith)) (neighbour-below g i 0 h)
   near-below h (suc zero) = rw (near-list 1 (omega arith)) (neighbour-below g i 1 h)
   near-below h (suc (suc zero)) = rw (near-list 2 (omega arith)) (neighbour-below g i 2 h)

@@ -10,7 +10,7 @@ use Rattle.whole.specs.Parts.{∣_∣}
 use Rattle.rules.specs.Graph.{Graph, graph, dropTo, neighbours}
 use Rattle.rules.specs.Size.{Within}
 use Rattle.accepted_laws.specs.Small.{Small, small-set, small-clear, small-map}
-use Rattle.graph.specs.Near.{three, nearOf}
+use Rattle.graph.specs.Near.{three, nearAt}
 
 pub small-three : {b : ℕ} {ws : List ℤ} → Small b ws → Small b (three ws (pos 0))
 small-three {b} {ws} s = record { each = at }
@@ -21,8 +21,8 @@ small-three {b} {ws} s = record { each = at }
     at (suc (suc zero)) = s .each 2
     at (suc (suc (suc k))) = omega arith
 
-pub small-near : {b : ℕ} (g : Graph) (i : ℕ) → Small b (g .edges) → Small b (nearOf g i .weights)
-unfolding nearOf
+pub small-near : {b : ℕ} (g : Graph) (i : ℕ) → Small b (g .edges) → Small b (nearAt g i .weights)
+unfolding nearAt
 small-near g i s = small-three (small-map (λ j. getD (g .edges) (64 * i + j) (pos 0)) (neighbours g i) (λ j. s .each (64 * i + j)))
 
 -- the size rule does not look at the states

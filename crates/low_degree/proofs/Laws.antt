@@ -23,7 +23,7 @@ use Rattle.whole.specs.Pigeon.{Apart}
 use Rattle.rules.specs.Graph.{Graph, neighbours, addConstant, addLinear, addEdge, dropTo}
 use Rattle.rules.specs.Eliminate.{tee, absorb, eliminate}
 use Rattle.cost_laws.specs.Growth.{neighbours-apart}
-use Rattle.graph.specs.Near.{three, nearOf}
+use Rattle.graph.specs.Near.{three, nearAt}
 use Rattle.graph.specs.NearLaws.{near-count, near-list}
 use Rattle.graph.specs.declared.Near.{Near}
 use Rattle.graph.specs.Held.{held, withConstant}
@@ -188,7 +188,7 @@ module _ (t : ℕ → ℤ) (f g : Frame) (l e : List ℤ) (ss : List ℕ) (j k :
   unfolding absorb addConstant addLinear addEdge
   absorb-two count l₁ l₂ e₁ z p q r = rw z (ap (λ (x : Frame). held x l₂ e₁ ss) h ∙ rw (r, q, p))
 
-module _ (g : Graph) (i : ℕ) (near : Near) (is : near ≡ nearOf g i) (few : near .count ≤ 2) where
+module _ (g : Graph) (i : ℕ) (near : Near) (is : near ≡ nearAt g i) (few : near .count ≤ 2) where
   short : length (neighbours g i) ≤ 2
   short = omega (arith, near-count g i near is)
 

@@ -9,7 +9,7 @@ use lib.Signed.{ltZ}
 use Rattle.whole.specs.Words.{tab, chosen, bitsFrom, below0}
 use Rattle.rules.specs.Graph.{Graph, lin}
 use Rattle.rules.specs.Eliminate.{delta, tee}
-use Rattle.graph.specs.Near.{three, nearOf}
+use Rattle.graph.specs.Near.{three, nearAt}
 use Rattle.graph.specs.declared.Near.{Near}
 use Rattle.low_degree.specs.declared.Table.{Table}
 use Rattle.rules.specs.declared.Step.{Step}
@@ -37,4 +37,4 @@ stepFrom i near ds = record {
 
 -- the rules' own table, in whatever graph the decision stands
 abbrev pub Tables : Table → ℤ → Near → Type 0
-Tables r a near = (g : Graph) (i : ℕ) → a ≡ lin g i → near ≡ nearOf g i → (r .deltas ≡ tab (delta g i) 8) × (r .tees ≡ tab (tee g i) 8)
+Tables r a near = (g : Graph) (i : ℕ) → a ≡ lin g i → near ≡ nearAt g i → (r .deltas ≡ tab (delta g i) 8) × (r .tees ≡ tab (tee g i) 8)

@@ -22,7 +22,7 @@ use Rattle.rules.specs.Graph.{Graph, lin, edge, neighbours, degree, row}
 use Rattle.rules.specs.Eliminate.{delta, chooses, tee, stepOf}
 use Rattle.rules.specs.Record.{hold}
 use Rattle.rules.specs.Size.{Within}
-use Rattle.graph.specs.Near.{three, nearOf}
+use Rattle.graph.specs.Near.{three, nearAt}
 use Rattle.graph.specs.NearLaws.{near-count, near-list, near-weights}
 use Rattle.accepted_laws.specs.Small.{Small}
 use Rattle.graph.specs.Small.{small-near}
@@ -54,7 +54,7 @@ unfolding bitsFrom
 bits-alike f h b zero e = refl
 bits-alike f h b (suc c) e = ap₂ (λ (t : Bool) r. oneIf t * 2 ^ b + r) (e b (omega arith)) (bits-alike f h (suc b) c (λ m l. e m (omega arith)))
 
-module _ (g : Graph) (i : ℕ) (near : Near) (is : near ≡ nearOf g i) (few : near .count ≤ 3) where
+module _ (g : Graph) (i : ℕ) (near : Near) (is : near ≡ nearAt g i) (few : near .count ≤ 3) where
   pub degree-few : degree g i ≤ 3
   degree-few = omega (arith, near-count g i near is)
 

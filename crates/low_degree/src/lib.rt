@@ -12,7 +12,7 @@ ghost use Rattle.rules.specs.Eliminate.{absorb as absorbed, eliminate as elimin
 ghost use Rattle.rules.specs.Record.{hold};
 ghost use Rattle.rules.specs.Size.{Within};
 ghost use Rattle.graph.specs.Held.{held};
-ghost use Rattle.graph.specs.Near.{nearOf};
+ghost use Rattle.graph.specs.Near.{nearAt};
 ghost use Rattle.graph.specs.Shows.{Shows};
 ghost use Rattle.accepted_laws.specs.Small.{Small};
 ghost use Rattle.low_degree.specs.Table.{deltasOf, teesOf, choicesOf, stepFrom, Tables};
@@ -179,7 +179,7 @@ pub fn eliminate(
     near: graph::Near,
     i: usize,
 ) -> Reduced
-    requires { ⌜ (i < 64) × (f .n ≤ 64) × Within (held f (now lin) (now edges) (now states)) × (near ≡ nearOf (held f (now lin) (now edges) (now states)) i) × (near .count ≤ 2) × Shows (f .n) (now edges) (now masks) ⌝ }
+    requires { ⌜ (i < 64) × (f .n ≤ 64) × Within (held f (now lin) (now edges) (now states)) × (near ≡ nearAt (held f (now lin) (now edges) (now states)) i) × (near .count ≤ 2) × Shows (f .n) (now edges) (now masks) ⌝ }
     ensures { λ r. ⌜ (held (r .frame) (now (lin .exit)) (now (edges .exit)) (now (states .exit)) ≡ eliminated i (held f (now (lin .entry)) (now (edges .entry)) (now (states .entry))))
         × Shows (f .n) (now (edges .exit)) (now (masks .exit))
         × (r .step ≡ hold (stepOf (held f (now (lin .entry)) (now (edges .entry)) (now (states .entry))) i)) ⌝ }

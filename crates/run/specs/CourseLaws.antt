@@ -52,7 +52,7 @@ use Rattle.state.specs.Steps.{StepsKept}
 use Rattle.state.specs.StepsLaws.{kept-more}
 use Rattle.state.specs.declared.State.{State}
 use Rattle.state.specs.declared.steps.Steps.{Steps}
-use Rattle.take.specs.Done.{Ready, Done, Leaves}
+use Rattle.take.specs.Effects.{Ready, Effect, Leaves}
 use Rattle.take.specs.declared.Taken.{Taken}
 use Rattle.run.specs.Blocks.{Removable}
 use Rattle.run.specs.BlocksLaws.{due-take}
@@ -180,7 +180,7 @@ module _ (budget : ℕ) (opt : Options) (E : run.Ended) (S : run.State) (s : Sta
     -- no step is made
     went-no : t .stepped ≡ false → T ≡ run.state left q (S .steps) (plus (S .counted) (counts (t .did))) (S .takes + 1) (S .blocks)
     unfolding run.takeFront
-    went-no z = ap (λ (v : run.Way). run.go v opt i F) way-is ∙ k .done .no z opt F (sym (c .holds .graph))
+    went-no z = ap (λ (v : run.Way). run.go v opt i F) way-is ∙ k .effect .no z opt F (sym (c .holds .graph))
 
     pub taken-no : t .stepped ≡ false → (r : Queue) → items r ≡ q → InPass budget opt E next-state made r w′
     taken-no z r is = record {
@@ -191,27 +191,27 @@ module _ (budget : ℕ) (opt : Options) (E : run.Ended) (S : run.State) (s : Sta
 
     -- a step is made, and the neighbours as they were rejoin
     module _ (z : t .stepped ≡ true) where
-      went-yes : T ≡ run.reduced opt (run.takeFront q S) i left (k .done .yes z .0) (counts (t .did))
+      went-yes : T ≡ run.reduced opt (run.takeFront q S) i left (k .effect .yes z .0) (counts (t .did))
       unfolding run.takeFront
-      went-yes = ap (λ (v : run.Way). run.go v opt i F) way-is ∙ k .done .yes z .1 .1 .1 opt F (sym (c .holds .graph))
+      went-yes = ap (λ (v : run.Way). run.go v opt i F) way-is ∙ k .effect .yes z .1 .1 .1 opt F (sym (c .holds .graph))
 
       -- there is room for it
       pub step-room : made .count < 64
       unfolding run.reduced run.takeFront
       step-room =
           let full = in-order-room (start (c .objective)) (next-in-order (start (c .objective)) opt S T (due-take opt S i q front) (c .order)) .steps in
-          omega (arith, c .holds .steps .count, full, ap (λ (X : run.State). length (X .steps)) went-yes, length-append (S .steps) (k .done .yes z .0 ∷ []))
+          omega (arith, c .holds .steps .count, full, ap (λ (X : run.State). length (X .steps)) went-yes, length-append (S .steps) (k .effect .yes z .0 ∷ []))
 
       pub taken-yes : (r r′ : Queue) → items r ≡ q → Joins (items r′) (items r) opt (w′ .masks) (w′ .states) (t .near)
           → InPass budget opt E next-state (record { list = set (made .list) (made .count) (t .step); count = made .count + 1 }) r′ w′
       unfolding run.reduced run.takeFront
       taken-yes r r′ is j = record {
         state = T;
-        course = holding _ _ went-yes refl (kept-more made (S .steps) (t .step) (k .done .yes z .0) (c .holds .steps) (k .done .yes z .1 .0) step-room) refl refl refl;
+        course = holding _ _ went-yes refl (kept-more made (S .steps) (t .step) (k .effect .yes z .0) (c .holds .steps) (k .effect .yes z .1 .0) step-room) refl refl refl;
         queued =
             j (t .frame .n) (t .frame .constant) (w′ .linear) (w′ .edges) (omega (arith, k .same, fine .shaped .few)) shown
             ∙ ap (join opt left (these (t .near))) is
-            ∙ ap (λ (js : List ℕ). join opt left js q) (k .done .yes z .1 .1 .0 ∙ ap (λ (g : Graph). neighbours g i) (c .holds .graph))
+            ∙ ap (λ (js : List ℕ). join opt left js q) (k .effect .yes z .1 .1 .0 ∙ ap (λ (g : Graph). neighbours g i) (c .holds .graph))
             ∙ sym (ap (λ (X : run.State). X .queue) went-yes);
       }
 

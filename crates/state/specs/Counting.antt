@@ -26,7 +26,7 @@ pub record Countable (t : Tally) : Type 0 where
   pub inBlocks : t .«in_blocks» ≤ 64
 
 -- what one unit counts
-pub record Few (t : Tally) : Type 0 where
+pub record OfUnit (t : Tally) : Type 0 where
   pub eliminated : t .eliminated ≤ 8
   pub three : t .three ≤ 8
   pub skipped : t .skipped ≤ 1
@@ -34,15 +34,15 @@ pub record Few (t : Tally) : Type 0 where
   pub weakly : t .weakly ≤ 8
   pub inBlocks : t .«in_blocks» ≤ 8
 
-abbrev few : (a b c d e f : ℕ) → a ≤ 8 → b ≤ 8 → c ≤ 1 → d ≤ 8 → e ≤ 8 → f ≤ 8 → Few (tally a b c d e f)
+abbrev few : (a b c d e f : ℕ) → a ≤ 8 → b ≤ 8 → c ≤ 1 → d ≤ 8 → e ≤ 8 → f ≤ 8 → OfUnit (tally a b c d e f)
 few a b c d e f p q r s t u = record { eliminated = p; three = q; skipped = r; contracted = s; weakly = t; inBlocks = u }
 
-pub counts-few : (d : Did) → Few (counts d)
+pub counts-few : (d : Did) → OfUnit (counts d)
 counts-few Nothing = few 0 0 0 0 0 0 (omega arith) (omega arith) (omega arith) (omega arith) (omega arith) (omega arith)
 counts-few Skipped = few 0 0 1 0 0 0 (omega arith) (omega arith) (omega arith) (omega arith) (omega arith) (omega arith)
 counts-few Eliminated = few 1 0 0 0 0 0 (omega arith) (omega arith) (omega arith) (omega arith) (omega arith) (omega arith)
 counts-few Three = few 1 1 0 0 0 0 (omega arith) (omega arith) (omega arith) (omega arith) (omega arith) (omega arith)
 counts-few (Contracted w) = few 0 0 0 1 (oneIf w) 0 (omega arith) (omega arith) (omega arith) (omega arith) (omega (arith, at-most-one w)) (omega arith)
 
-pub members-few : (k : ℕ) → k ≤ 8 → Few (membersGone k)
+pub members-few : (k : ℕ) → k ≤ 8 → OfUnit (membersGone k)
 members-few k h = few 0 0 0 0 0 k (omega arith) (omega arith) (omega arith) (omega arith) (omega arith) h

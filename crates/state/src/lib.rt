@@ -2,7 +2,7 @@
 ghost use mathlib.Core.Path.{_≡_};
 ghost use Prim.Native.Nat.{_+_, _<_};
 ghost use Rattle.rules.specs.Counts.{plus};
-ghost use Rattle.state.specs.Counting.{counts, Countable, Few};
+ghost use Rattle.state.specs.Counting.{counts, Countable, OfUnit};
 use graph::Frame;
 use rules::Tally;
 
@@ -55,7 +55,7 @@ pub fn counts_of(did: Did) -> Tally
 
 // Each count with what is added to it.
 pub fn more(t: Tally, u: Tally) -> Tally
-    requires { ⌜ Countable t × Few u ⌝ }
+    requires { ⌜ Countable t × OfUnit u ⌝ }
     ensures { λ r. ⌜ r ≡ plus t u ⌝ }
 {
     Tally {

@@ -1,4 +1,4 @@
 pub mod Ways
 pub mod WaysLaws
-pub mod Done
-pub mod DoneLaws
+pub mod Effects
+pub mod EffectsLaws

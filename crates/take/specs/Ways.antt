@@ -11,7 +11,7 @@ use Rattle.rules.specs.DominantEdge.{Found, nothing, weak, dominant}
 use Rattle.rules.specs.Options.{dominantEdge}
 use Rattle.rules.specs.Run as run
 use Rattle.rules.specs.declared.Options.{Options}
-use Rattle.graph.specs.Near.{nearOf}
+use Rattle.graph.specs.Near.{nearAt}
 use Rattle.graph.specs.Shows.{Shows}
 use Rattle.graph.specs.declared.Near.{Near}
 use Rattle.take.specs.declared.way.Way.{Way}
@@ -43,4 +43,4 @@ pub record Decides (r : Way) (opt : Options) (g : Graph) (i : ℕ) (near : Near)
 
 -- of every graph whose edges the masks show
 abbrev pub Decided : Way → Options → List ℤ → List ℤ → List ℕ → List ℕ → Near → ℕ → Type 0
-Decided r opt l e m ss near i = (n : ℕ) (c : ℤ) → n ≤ 64 → Shows n e m → near ≡ nearOf (graph n c l e ss) i → Decides r opt (graph n c l e ss) i near
+Decided r opt l e m ss near i = (n : ℕ) (c : ℤ) → n ≤ 64 → Shows n e m → near ≡ nearAt (graph n c l e ss) i → Decides r opt (graph n c l e ss) i near

@@ -8,9 +8,9 @@ ghost use Rattle.rules.specs.DominantEdge.{weak as isWeak};
 ghost use Rattle.rules.specs.Record.{noStep};
 ghost use Rattle.rules.specs.Run as run;
 ghost use Rattle.graph.specs.Held.{held};
-ghost use Rattle.graph.specs.Near.{nearOf};
+ghost use Rattle.graph.specs.Near.{nearAt};
 ghost use Rattle.state.specs.Holds.{arrays};
-ghost use Rattle.take.specs.Done.{Ready, Leaves};
+ghost use Rattle.take.specs.Effects.{Ready, Leaves};
 use crate::way::Way;
 use graph::Frame;
 use graph::Near;
@@ -53,7 +53,7 @@ fn low(
     near: Near,
     i: usize,
 ) -> Taken
-    requires { ⌜ Ready f (arrays (now lin) (now edges) (now masks) (now states)) i × (near ≡ nearOf (held f (now lin) (now edges) (now states)) i) × (near .count ≤ 2) ⌝ }
+    requires { ⌜ Ready f (arrays (now lin) (now edges) (now masks) (now states)) i × (near ≡ nearAt (held f (now lin) (now edges) (now states)) i) × (near .count ≤ 2) ⌝ }
     ensures { λ r. ⌜ Leaves run.low i f (arrays (now (lin .entry)) (now (edges .entry)) (now (masks .entry)) (now (states .entry))) r (arrays (now (lin .exit)) (now (edges .exit)) (now (masks .exit)) (now (states .exit))) ⌝ }
 {
     let before = masks[i];
@@ -106,7 +106,7 @@ fn three(
     near: Near,
     i: usize,
 ) -> Taken
-    requires { ⌜ Ready f (arrays (now lin) (now edges) (now masks) (now states)) i × (near ≡ nearOf (held f (now lin) (now edges) (now states)) i) × (near .count ≡ 3) ⌝ }
+    requires { ⌜ Ready f (arrays (now lin) (now edges) (now masks) (now states)) i × (near ≡ nearAt (held f (now lin) (now edges) (now states)) i) × (near .count ≡ 3) ⌝ }
     ensures { λ r. ⌜ Leaves (cond (cubic (held f (now (lin .entry)) (now (edges .entry)) (now (states .entry))) i) run.failed run.three) i f (arrays (now (lin .entry)) (now (edges .entry)) (now (masks .entry)) (now (states .entry))) r (arrays (now (lin .exit)) (now (edges .exit)) (now (masks .exit)) (now (states .exit))) ⌝ }
 {
     let before = masks[i];

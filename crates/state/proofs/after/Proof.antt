@@ -4,13 +4,13 @@ use native.Mathlib.Omega.{arith}
 use borrow.Author.Needs.{needs}
 use Rattle.rules.specs.Counts.{plus}
 use Rattle.rules.specs.declared.Tally.{Tally}
-use Rattle.state.specs.Counting.{Few, counts-few}
+use Rattle.state.specs.Counting.{OfUnit, counts-few}
 use Rattle.state.specs.declared.State.{State}
 use Rattle.state.proofs.after.Statement.{statement}
 use Rattle.state.proofs.after.Tie as tie
 
 more-requires : tie.Need-more-requires
-more-requires c κs = let s = c .before in (s .pre .0, subst Few (sym (c .counts-of .ensures)) (counts-few (s .args .did)))
+more-requires c κs = let s = c .before in (s .pre .0, subst OfUnit (sym (c .counts-of .ensures)) (counts-few (s .args .did)))
 
 returns : tie.Need-returns
 returns c =

@@ -8,8 +8,8 @@ use Rattle.rules.specs.Graph.{Graph}
 use Rattle.rules.specs.Run as run
 use Rattle.cost_laws.specs.SameN.{contract-n}
 use Rattle.state.specs.Holds.{Arrays, arrays}
-use Rattle.take.specs.Done.{graphOf}
-use Rattle.take.specs.DoneLaws.{around, stepping}
+use Rattle.take.specs.Effects.{graphAt}
+use Rattle.take.specs.EffectsLaws.{mask-around, stepping}
 use Rattle.take.proofs.into.Statement.{statement}
 use Rattle.take.proofs.into.Tie as tie
 
@@ -20,7 +20,7 @@ contract-requires : tie.Need-contract-requires
 contract-requires c κs =
     let s = c .before .before .before .before .before in
     let r = s .pre .0 in
-    (r .below, s .pre .1, r .few, r .within, around (s .args .f) (before s) (s .args .i) r, r .shown)
+    (r .below, s .pre .1, r .few, r .within, mask-around (s .args .f) (before s) (s .args .i) r, r .shown)
 
 returns : tie.Need-returns
 unfolding run.go
@@ -29,10 +29,10 @@ returns c =
     let s = z .before .before .before .before .before .before in
     let i = s .args .i in
     let j = s .args .j in
-    let g = graphOf (s .args .f) (before s) in
+    let g = graphAt (s .args .f) (before s) in
     let e = z .contract .ensures in
     record {
-      done = stepping (run.into j) i g _ _ (contract i j) (λ x. contractStep i j x) (λ x. oneContracted (weak x i j)) (λ opt S. refl) refl (e .0) (e .2) (ap (λ (t : Bool). oneContracted t) (s .pre .2)) (around (s .args .f) (before s) i (s .pre .0));
+      effect = stepping (run.into j) i g _ _ (contract i j) (λ x. contractStep i j x) (λ x. oneContracted (weak x i j)) (λ opt S. refl) refl (e .0) (e .2) (ap (λ (t : Bool). oneContracted t) (s .pre .2)) (mask-around (s .args .f) (before s) i (s .pre .0));
       same = ap (λ (x : Graph). x .n) (e .0) ∙ contract-n i j g;
       shown = e .1;
     }

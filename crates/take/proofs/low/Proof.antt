@@ -7,8 +7,8 @@ use Rattle.rules.specs.Graph.{Graph}
 use Rattle.rules.specs.Run as run
 use Rattle.cost_laws.specs.SameN.{eliminate-n}
 use Rattle.state.specs.Holds.{Arrays, arrays}
-use Rattle.take.specs.Done.{graphOf}
-use Rattle.take.specs.DoneLaws.{around, stepping}
+use Rattle.take.specs.Effects.{graphAt}
+use Rattle.take.specs.EffectsLaws.{mask-around, stepping}
 use Rattle.take.proofs.low.Statement.{statement}
 use Rattle.take.proofs.low.Tie as tie
 
@@ -27,10 +27,10 @@ returns c =
     let z = c .before .before in
     let s = z .before .before .before .before .before .before in
     let i = s .args .i in
-    let g = graphOf (s .args .f) (before s) in
+    let g = graphAt (s .args .f) (before s) in
     let e = z .eliminate .ensures in
     record {
-      done = stepping run.low i g _ _ (eliminate i) (λ x. stepOf x i) (λ x. oneEliminated) (λ opt S. refl) refl (e .0) (e .2) refl (around (s .args .f) (before s) i (s .pre .0));
+      effect = stepping run.low i g _ _ (eliminate i) (λ x. stepOf x i) (λ x. oneEliminated) (λ opt S. refl) refl (e .0) (e .2) refl (mask-around (s .args .f) (before s) i (s .pre .0));
       same = ap (λ (x : Graph). x .n) (e .0) ∙ eliminate-n i g;
       shown = e .1;
     }

@@ -3,10 +3,10 @@ use borrow.Author.Needs.{needs}
 use denote.Ref.{now}
 use Rattle.rules.specs.Graph.{Graph}
 use Rattle.rules.specs.Run as run
-use Rattle.graph.specs.Near.{nearOf}
+use Rattle.graph.specs.Near.{nearAt}
 use Rattle.state.specs.Holds.{Arrays, arrays}
-use Rattle.take.specs.Done.{graphOf, Leaves}
-use Rattle.take.specs.DoneLaws.{idling}
+use Rattle.take.specs.Effects.{graphAt, Leaves}
+use Rattle.take.specs.EffectsLaws.{idling}
 use Rattle.take.specs.Ways.{wayOf, Fitting, Decides}
 use Rattle.take.specs.declared.Taken.{Taken}
 use Rattle.take.specs.declared.way.Way.{Way}
@@ -17,7 +17,7 @@ abbrev before : tie.Start → Arrays
 before s = arrays (now (s .args .lin)) (now (s .args .edges)) (now (s .args .masks)) (now (s .args .states))
 
 abbrev whole : tie.Start → Graph
-whole s = graphOf (s .args .f) (before s)
+whole s = graphAt (s .args .f) (before s)
 
 decide-requires : tie.Need-decide-requires
 decide-requires c κs =
@@ -31,7 +31,7 @@ start d = d .before .before .before .before .before .before .before .before
 abbrev near : tie.After-decide → tie.After-neighbours
 near d = d .before .before .before .before .before
 
-around : (d : tie.After-decide) → near d .neighbours .result ≡ nearOf (whole (start d)) (start d .args .i)
+around : (d : tie.After-decide) → near d .neighbours .result ≡ nearAt (whole (start d)) (start d .args .i)
 around d = let s = start d in near d .neighbours .ensures (s .args .f .n) (s .pre .few) (s .pre .shown) (s .args .f .constant) (now (s .args .lin)) (now (s .args .states))
 
 decided : (d : tie.After-decide) → Decides (d .decide .result) (start d .args .options) (whole (start d)) (start d .args .i) (near d .neighbours .result)

@@ -11,8 +11,8 @@ use Rattle.rules.specs.Run as run
 use Rattle.cost_laws.specs.SameN.{eliminate3-n}
 use Rattle.graph.specs.declared.Frame.{Frame}
 use Rattle.state.specs.Holds.{Arrays, arrays}
-use Rattle.take.specs.Done.{graphOf, Done, Leaves}
-use Rattle.take.specs.DoneLaws.{around, stepping, staying}
+use Rattle.take.specs.Effects.{graphAt, Effect, Leaves}
+use Rattle.take.specs.EffectsLaws.{mask-around, stepping, staying}
 use Rattle.take.specs.declared.Taken.{Taken}
 use Rattle.take.proofs.three.Statement.{statement}
 use Rattle.take.proofs.three.Tie as tie
@@ -31,7 +31,7 @@ abbrev start : tie.After-eliminate-three → tie.Start
 start z = z .before .before .before .before .before .before
 
 abbrev whole : tie.After-eliminate-three → Graph
-whole z = graphOf (start z .args .f) (before (start z))
+whole z = graphAt (start z .args .f) (before (start z))
 
 abbrev after : tie.After-eliminate-three → Arrays
 after z = arrays (z .eliminate-three .last .0) (z .eliminate-three .last .1 .0) (z .eliminate-three .last .1 .1 .0) (z .eliminate-three .last .1 .1 .1 .0)
@@ -41,7 +41,7 @@ module _ (z : tie.After-eliminate-three) (t : Bool) (q : z .eliminate-three .res
   seen : cubic (whole z) (start z .args .i) ≡ t
   seen = sym (z .eliminate-three .ensures .0) ∙ q
 
-  left : graphOf (z .eliminate-three .result .frame) (after z) ≡ cond t (whole z) (eliminate3 (start z .args .i) (whole z))
+  left : graphAt (z .eliminate-three .result .frame) (after z) ≡ cond t (whole z) (eliminate3 (start z .args .i) (whole z))
   left = z .eliminate-three .ensures .1 ∙ ap (λ (b : Bool). cond b (whole z) (eliminate3 (start z .args .i) (whole z))) seen
 
   made : z .eliminate-three .result .step ≡ cond t noStep (hold (stepOf (whole z) (start z .args .i)))
@@ -60,7 +60,7 @@ returns c =
     let i = start z .args .i in
     let q = one .if1 .taken in
     leaves z true q _ (subst (λ (r : Taken). Leaves run.failed i (start z .args .f) (before (start z)) r (after z)) (sym (c .without-step .ensures)) (record {
-      done = staying run.failed i (whole z) _ _ (λ opt S. refl) refl (left z true q);
+      effect = staying run.failed i (whole z) _ _ (λ opt S. refl) refl (left z true q);
       same = ap (λ (x : Graph). x .n) (left z true q);
       shown = z .eliminate-three .ensures .2;
     }))
@@ -74,7 +74,7 @@ returns-2 c =
     let i = s .args .i in
     let q = one .if1 .left in
     leaves z false q _ (record {
-      done = stepping run.three i (whole z) _ _ (eliminate3 i) (λ x. stepOf x i) (λ x. oneThree) (λ opt S. refl) refl (left z false q) (made z false q) refl (around (s .args .f) (before s) i (s .pre .0));
+      effect = stepping run.three i (whole z) _ _ (eliminate3 i) (λ x. stepOf x i) (λ x. oneThree) (λ opt S. refl) refl (left z false q) (made z false q) refl (mask-around (s .args .f) (before s) i (s .pre .0));
       same = ap (λ (x : Graph). x .n) (left z false q) ∙ eliminate3-n i (whole z);
       shown = z .eliminate-three .ensures .2;
     })

@@ -14,7 +14,7 @@ use Rattle.rules.specs.Eliminate as rule
 use Rattle.rules.specs.declared.Tally.{Tally}
 use Rattle.cost_laws.specs.SameN.{block-n}
 use Rattle.graph.specs.Shows.{Shows}
-use Rattle.state.specs.Counting.{Few, members-few}
+use Rattle.state.specs.Counting.{OfUnit, members-few}
 use Rattle.state.specs.Holds.{Arrays, arrays, graphIn}
 use Rattle.state.specs.Steps.{StepsKept}
 use Rattle.run.proofs.block.take_block.Statement.{statement}
@@ -33,7 +33,7 @@ gone m = m .before .before .before .before
 more-requires : tie.Need-more-requires
 more-requires c κs =
     let s = start (c .before .before .before) in
-    (s .pre .counted, subst Few (sym (c .members .ensures)) (members-few (s .args .found .count) (s .pre .eight)))
+    (s .pre .counted, subst OfUnit (sym (c .members .ensures)) (members-few (s .args .found .count) (s .pre .eight)))
 
 add-blocks : tie.Need-add-t22
 add-blocks c = let s = start (gone (c .before)) in omega (arith, s .pre .blocks)

@@ -12,7 +12,7 @@ use Rattle.whole.specs.Tests.{and-true}
 use Rattle.rules.specs.Options.{lowDegree, degreeThree}
 use Rattle.rules.specs.Graph.{Graph, graph, degree}
 use Rattle.rules.specs.DominantEdge.{nothing}
-use Rattle.graph.specs.Near.{nearOf}
+use Rattle.graph.specs.Near.{nearAt}
 use Rattle.graph.specs.NearLaws.{near-count}
 use Rattle.graph.specs.Shows.{Shows}
 use Rattle.graph.specs.ShowsLaws.{shown}
@@ -31,7 +31,7 @@ returns : tie.Need-returns
 returns c = λ n k f h e. let s = c .before .before in record { is = way-inactive (s .args .options) (whole s n k) (s .args .i) (c .if1 .taken); fitting = tt }
 
 -- its degree is the count of its neighbours
-module _ (s : tie.Start) (n : ℕ) (k : ℤ) (e : s .args .near ≡ nearOf (whole s n k) (s .args .i)) where
+module _ (s : tie.Start) (n : ℕ) (k : ℤ) (e : s .args .near ≡ nearAt (whole s n k) (s .args .i)) where
   count : s .args .near .count ≡ degree (whole s n k) (s .args .i)
   count = near-count (whole s n k) (s .args .i) (s .args .near) e
 
@@ -59,7 +59,7 @@ dominant-if-requires c κs = c .before .before .before .before .before .pre
 abbrev start : tie.After-dominant-if → tie.Start
 start d = d .before .before .before .before .before .before
 
-module _ (d : tie.After-dominant-if) (n : ℕ) (k : ℤ) (f : n ≤ 64) (h : Shows n (now (start d .args .edges)) (now (start d .args .masks))) (e : start d .args .near ≡ nearOf (whole (start d) n k) (start d .args .i)) where
+module _ (d : tie.After-dominant-if) (n : ℕ) (k : ℤ) (f : n ≤ 64) (h : Shows n (now (start d .args .edges)) (now (start d .args .masks))) (e : start d .args .near ≡ nearAt (whole (start d) n k) (start d .args .i)) where
   found : d .dominant-if .result ≡ answerOf (whole (start d) n k) (start d .args .i) (dominantIf (start d .args .options) (whole (start d) n k) (start d .args .i))
   found =
       let a = start d .args in
@@ -81,7 +81,7 @@ returns-3 c = λ n k f h e.
     }
 
 -- nobody is dominant
-nobody : (t : tie.After-enum-told) → let d = t .before .before in (n : ℕ) (k : ℤ) → n ≤ 64 → Shows n (now (start d .args .edges)) (now (start d .args .masks)) → start d .args .near ≡ nearOf (whole (start d) n k) (start d .args .i)
+nobody : (t : tie.After-enum-told) → let d = t .before .before in (n : ℕ) (k : ℤ) → n ≤ 64 → Shows n (now (start d .args .edges)) (now (start d .args .masks)) → start d .args .near ≡ nearAt (whole (start d) n k) (start d .args .i)
     → dominantIf (start d .args .options) (whole (start d) n k) (start d .args .i) ≡ nothing
 nobody t n k f h e =
     let d = t .before .before in

@@ -19,28 +19,28 @@ use Rattle.state.specs.Counting.{counts}
 use Rattle.state.specs.Holds.{Arrays}
 use Rattle.take.specs.declared.Taken.{Taken}
 
-abbrev pub graphOf : Frame → Arrays → Graph
-graphOf f w = held f (w .linear) (w .edges) (w .states)
+abbrev pub graphAt : Frame → Arrays → Graph
+graphAt f w = held f (w .linear) (w .edges) (w .states)
 
 -- a decision of a graph within the size rule, whose edges the masks show
 pub record Ready (f : Frame) (w : Arrays) (i : ℕ) : Type 0 where
   pub below : i < 64
   pub few : f .n ≤ 64
-  pub within : Within (graphOf f w)
+  pub within : Within (graphAt f w)
   pub shown : Shows (f .n) (w .edges) (w .masks)
 
 -- the graph and the counts change, and nothing else
-abbrev pub kept : run.State → Graph → Tally → run.State
-kept S g c = run.state g (S .queue) (S .steps) (plus (S .counted) c) (S .takes) (S .blocks)
+abbrev pub recounted : run.State → Graph → Tally → run.State
+recounted S g c = run.state g (S .queue) (S .steps) (plus (S .counted) c) (S .takes) (S .blocks)
 
 -- i went the way v from the graph g to g′: with no step, or with one
-pub record Done (v : run.Way) (i : ℕ) (g g′ : Graph) (r : Taken) : Type 0 where
-  pub no : r .stepped ≡ false → (opt : Options) (S : run.State) → S .graph ≡ g → run.go v opt i S ≡ kept S g′ (counts (r .did))
+pub record Effect (v : run.Way) (i : ℕ) (g g′ : Graph) (r : Taken) : Type 0 where
+  pub no : r .stepped ≡ false → (opt : Options) (S : run.State) → S .graph ≡ g → run.go v opt i S ≡ recounted S g′ (counts (r .did))
   pub yes : r .stepped ≡ true → (y : rule.Step) × ((r .step ≡ hold y) × ((these (r .near) ≡ neighbours g i)
       × ((opt : Options) (S : run.State) → S .graph ≡ g → run.go v opt i S ≡ run.reduced opt S i g′ y (counts (r .did)))))
 
 -- what the code leaves: as many decisions, and masks that show the edges
 pub record Leaves (v : run.Way) (i : ℕ) (f : Frame) (w : Arrays) (r : Taken) (w′ : Arrays) : Type 0 where
-  pub done : Done v i (graphOf f w) (graphOf (r .frame) w′) r
+  pub effect : Effect v i (graphAt f w) (graphAt (r .frame) w′) r
   pub same : r .frame .n ≡ f .n
   pub shown : Shows (f .n) (w′ .edges) (w′ .masks)
