@@ -1,6 +1,6 @@
 pub mod ByMasks
 pub mod Explored
-pub mod Gathered
+pub mod Scanned
 pub mod Cutting
 pub mod Seeking
 pub mod Tables

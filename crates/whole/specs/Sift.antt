@@ -1,16 +1,15 @@
 -- A walk over the decisions of a mask that sets those that pass aside, in a mask of their own.
 -- Assumes nothing.
-use mathlib.Core.Path.{_≡_, refl, sym, ap, ap₂, _∙_}
-use mathlib.Core.Bool.{Bool, true, false, not, _&&_, _||_}
-use mathlib.Core.Logic.{_≢_}
-use Prim.Native.Nat.{ℕ, _*_, _-_, _%_, _^_, _<_}
+use mathlib.Core.Path.{_≡_, refl, sym, ap, _∙_}
+use mathlib.Core.Bool.{Bool, true, false, _&&_, _||_}
+use Prim.Native.Nat.{ℕ, _-_, _<_}
 use lib.Bits.{bitAnd, bitOr}
 use lib.Count.{trailingZeros}
 use lib.Dec.{eqb}
 use borrow.Author.Tests.{eqb-true}
 use Rattle.whole.specs.Words.{bit, upto, mem, those}
 use Rattle.whole.specs.Members.{upto-in}
-use Rattle.whole.specs.Masks.{these, mem-these, those-ext, those-those, bit-none, bit-or, bit-shifted, Turn}
+use Rattle.whole.specs.Masks.{these, mem-these, those-ext, those-those, bit-none, bit-or, Turn}
 
 -- those of `of` that pass are those set aside so far, and those of `rest` that pass
 abbrev pub Sifted : (ℕ → Bool) → ℕ → ℕ → ℕ → Type 0
@@ -31,10 +30,10 @@ module _ (p : ℕ → Bool) (of rest who : ℕ) (s : Sifted p of rest who) (t : 
   unfolding mem
   split k h = sym (mem-these rest k h) ∙ ap (mem k) (t .parts) ∙ ap (λ (b : Bool). eqb k d || b) (mem-these others k h)
 
-  -- it passes
-  pub sift-yes : p d ≡ true → Sifted p of (bitAnd rest (rest - 1)) (bitOr who (1 * 2 ^ trailingZeros 64 rest % 2 ^ 64))
-  sift-yes y k h =
-      ap (λ (b : Bool). b || (bit others k && p k)) (bit-or who _ k ∙ ap (λ (b : Bool). bit who k || b) (bit-shifted d k (t .below)))
+  -- it passes: `one` is the mask of it alone
+  pub sift-yes : (one : ℕ) → ((k : ℕ) → bit one k ≡ eqb k (trailingZeros 64 rest)) → p (trailingZeros 64 rest) ≡ true → Sifted p of (bitAnd rest (rest - 1)) (bitOr who one)
+  sift-yes one s1 y k h =
+      ap (λ (b : Bool). b || (bit others k && p k)) (bit-or who one k ∙ ap (λ (b : Bool). bit who k || b) (s1 k))
       ∙ by (eqb k d) refl (bit who k) (bit others k) ∙ sym (ap (λ (b : Bool). bit who k || (b && p k)) (split k h)) ∙ s k h
     where
       by : (e : Bool) → eqb k d ≡ e → (w o : Bool) → ((w || e) || (o && p k)) ≡ (w || ((e || o) && p k))
@@ -44,7 +43,7 @@ module _ (p : ℕ → Bool) (of rest who : ℕ) (s : Sifted p of rest who) (t : 
       by false e false o = refl
 
   -- it does not
-  pub sift-no : p d ≡ false → Sifted p of (bitAnd rest (rest - 1)) who
+  pub sift-no : p (trailingZeros 64 rest) ≡ false → Sifted p of (bitAnd rest (rest - 1)) who
   sift-no n k h = by (eqb k d) refl (bit who k) (bit others k) ∙ sym (ap (λ (b : Bool). bit who k || (b && p k)) (split k h)) ∙ s k h
     where
       none : (o : Bool) → (o && false) ≡ false

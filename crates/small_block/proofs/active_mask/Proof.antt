@@ -9,7 +9,7 @@ use denote.Ref.{now}
 use lib.Bits.{or-lt}
 use lib.ListN.{getD}
 use lib.Dec.{eqb}
-use Rattle.small_block.specs.Gathered.{Scanned, scanned-none, scanned-yes, scanned-no, scanned-all}
+use Rattle.small_block.specs.Scanned.{Scanned, scanned-none, scanned-yes, scanned-no, scanned-all}
 use Rattle.small_block.proofs.active_mask.Statement.{statement}
 use Rattle.small_block.proofs.active_mask.Tie as tie
 

@@ -7,7 +7,7 @@ use lib.Bits.{or-lt}
 use lib.IntN.{ℤ}
 use borrow.Author.Needs.{needs}
 use denote.Ref.{now}
-use Rattle.whole.specs.Masks.{Turn, turn}
+use Rattle.whole.specs.Masks.{bit-shifted, Turn, turn}
 use Rattle.whole.specs.Sift.{Sifted, sift-none, sift-yes, sift-no, sift-end}
 use Rattle.rules.specs.Graph.{graph}
 use Rattle.graph.specs.Shows.{Shows}
@@ -36,7 +36,7 @@ loop-again c =
     let a = t .before .before .args in
     let j = c .before .may-join in
     ⊎-elim
-    (λ w. (at t .smaller, λ n k l e f s. rw (w .1) (sift-yes (mayJoin (a .options) (graph n k l e (now (a .states)))) (a .of) (r .rest) (r .who) (r .inv .1 n k l e f s) (at t) (sym (j .ensures n k l e f s) ∙ w .0 .taken))))
+    (λ w. (at t .smaller, λ n k l e f s. rw (w .1) (sift-yes (mayJoin (a .options) (graph n k l e (now (a .states)))) (a .of) (r .rest) (r .who) (r .inv .1 n k l e f s) (at t) _ (λ x. bit-shifted _ x (at t .below)) (sym (j .ensures n k l e f s) ∙ w .0 .taken))))
     (λ w. (at t .smaller, λ n k l e f s. rw (w .1) (sift-no (mayJoin (a .options) (graph n k l e (now (a .states)))) (a .of) (r .rest) (r .who) (r .inv .1 n k l e f s) (at t) (sym (j .ensures n k l e f s) ∙ w .0 .left))))
     (c .if1 .came)
 
