@@ -19,6 +19,8 @@
 extern "C" {
 #endif
 
+#define BALECREAK_VERSION "0.1.0"
+
 /* ---- what a call answers. Where several hold, the one that stands first in this list is given. */
 enum balecreak_answer {
     BALECREAK_OK = 0,
