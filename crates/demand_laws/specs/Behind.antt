@@ -28,6 +28,7 @@ use Rattle.run_laws.specs.DueLaws.{complete-over, ended-units, ended-cut}
 use Rattle.run_laws.specs.RunEnds.{ended-few, ended-complete}
 use Rattle.run_laws.specs.InOrderLaws.{run-in-order, in-order-room}
 use Rattle.run_laws.specs.FuelLaws.{graph-turns}
+use Rattle.run_laws.specs.WaitingLaws.{never-inactive}
 use Rattle.demand_laws.specs.Demands.{runOf, SizeRule, Sums, Units, Built, Updates, Reduction-of, Reductions, RunSound}
 
 -- ---- of every objective that is not refused
@@ -50,6 +51,7 @@ module _ (o : Objective) (fit : Fit o) where
     few = ended-few o fit;
     enough = ended-complete o fit;
     waiting = λ b. let r = in-order-room (start o) (run-in-order (start o) b (asked o) (start-stands o fit .fine)) in (r .queue, r .waiting);
+    active-waits = never-inactive o fit;
     turns = λ b aside s more l m. graph-turns (runOf o b .graph) (run-is-sound b .stands .fine) aside s more l m;
   }
 

@@ -16,7 +16,7 @@ use Rattle.whole.specs.Words.{mem}
 use Rattle.whole.specs.Different.{Apart}
 use Rattle.rules.specs.Options.{asked}
 use Rattle.rules.specs.Objective.{Objective}
-use Rattle.rules.specs.Graph.{Graph, lin, edge, neighbours, degree, addConstant, addLinear, addEdge, dropTo, graphOf}
+use Rattle.rules.specs.Graph.{Graph, lin, edge, active, neighbours, degree, addConstant, addLinear, addEdge, dropTo, graphOf}
 use Rattle.rules.specs.Fixing.{fix, start}
 use Rattle.rules.specs.Eliminate.{delta, tee, eliminate}
 use Rattle.rules.specs.DegreeThree.{pass, moebius, cubic, eliminate3}
@@ -180,6 +180,8 @@ pub record Units (o : Objective) : Type 0 where
   pub enough : 4224 ≤ o .budget → ended o .complete ≡ true
   -- at most 64 wait, and none twice
   pub waiting : (b : ℕ) → (length (runOf o b .queue) ≤ 64) × Apart 64 (runOf o b .queue)
+  -- everyone who waits is active: "Inactive: skip" never happens
+  pub active-waits : (b i : ℕ) → mem i (runOf o b .queue) ≡ true → active (runOf o b .graph) i ≡ true
   -- the 64 turns of growing a component are enough: more of them change nothing
   pub turns : (b : ℕ) (aside : List ℕ) (s more : ℕ) → s < 64 → mem s aside ≡ false
       → grow (neighbours (runOf o b .graph)) (64 + more) aside [] (s ∷ []) ≡ component (neighbours (runOf o b .graph)) aside s

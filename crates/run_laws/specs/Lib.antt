@@ -6,3 +6,4 @@ pub mod InOrderLaws
 pub mod RunEnds
 pub mod FuelLaws
 pub mod RemainingLaws
+pub mod WaitingLaws
