@@ -26,7 +26,7 @@ use Rattle.rules.specs.Run.{State, next, run, begin, ended}
 use Rattle.rules.specs.Size.{Within}
 use Rattle.rules.specs.Outcome.{outcome, units}
 use Rattle.rules.specs.Back.{growBack, project}
-use Rattle.rules.specs.Refuse.{writeRefusal}
+use Rattle.rules.specs.Refuse.{writeRefusal, growRefusal, projectRefusal, growBlockRefusal, projectBlockRefusal}
 use Rattle.rules.specs.Call.{reduction, linearAfter, edgesAfter, blockAfter, reading, planAfter, answerAfter, blockPlanAfter, blockAnswerAfter}
 use Rattle.rules.specs.declared.Reduction.{Reduction}
 use Rattle.cost_laws.specs.Cost.{when, costOf, deltaOf}
@@ -110,18 +110,41 @@ LeastGrown o =
     (answer : List ℕ) → Answer o answer → ((other : List ℕ) → Answer o other → costOfAnswer o answer ≤ℤ costOfAnswer o other)
     → (plan : List ℕ) → FullPlan o plan → costOfPlan o (grownBack o answer) ≤ℤ costOfPlan o plan
 
--- ---- the same through the calls, where `reduce` is lent outputs that hold l and e
+-- ---- the same through the calls
+-- growing an answer back gave a number and a plan: no refusal, a full plan, and its cost is what the reduction r with its outputs says
+pub record CostsExactly (o : Objective) (r : Reduction) (linear edges : List ℤ) (answer : List ℕ) (number : ℕ) (plan : List ℕ) : Type 0 where
+  pub fine : number ≡ 0
+  pub full : FullPlan o plan
+  pub exact : costOfPlan o plan ≡ reducedCost (r .«record» .constant) linear edges answer
+
+-- projecting a full plan gave a number and a list whose front is an answer; growing that back gave `second` and `again`, which is never costlier
+pub record NeverCostlier (o : Objective) (r : Reduction) (linear edges : List ℤ) (plan : List ℕ) (first : ℕ) (front : List ℕ) (second : ℕ) (again : List ℕ) : Type 0 where
+  pub fine : first ≡ 0
+  pub answer : Values (r .counts .remaining) (take (r .counts .remaining) front)
+  pub grown : CostsExactly o r linear edges (take (r .counts .remaining) front) second again
+  pub never : costOfPlan o again ≤ℤ costOfPlan o plan
+
+-- where `reduce` is lent outputs that hold l and e
 abbrev pub reply : Objective → List ℤ → List ℤ → Reduction
 reply o l e = reduction o (length l) (length e)
 
+-- `grow_back` with an output n long
+abbrev pub Grows : Objective → Reduction → List ℤ → List ℤ → Type 0
+Grows o r linear edges =
+    (answer out : List ℕ) → Values (r .counts .remaining) answer → length out ≡ o .n
+    → CostsExactly o r linear edges answer (growRefusal (r .«record») answer (length out)) (planAfter (r .«record») answer out)
+
+-- `project`, and its front grown back
+abbrev pub Projects : Objective → Reduction → List ℤ → List ℤ → Type 0
+Projects o r linear edges =
+    (plan out out′ : List ℕ) → FullPlan o plan → length out ≡ o .n → length out′ ≡ o .n
+    → let front = answerAfter (r .«record») plan out in
+    let answer = take (r .counts .remaining) front in
+    NeverCostlier o r linear edges plan (projectRefusal (r .«record») plan (length out)) front (growRefusal (r .«record») answer (length out′)) (planAfter (r .«record») answer out′)
+
 pub record ByCalls (o : Objective) (l e : List ℤ) : Type 0 where
-  -- `grow_back` with an output n long
-  pub grown : (answer out : List ℕ) → Values (reply o l e .counts .remaining) answer → length out ≡ o .n
-      → FullPlan o (planAfter (reply o l e .«record») answer out)
-      × (costOfPlan o (planAfter (reply o l e .«record») answer out) ≡ reducedCost (reply o l e .«record» .constant) (linearAfter o l e) (edgesAfter o l e) answer)
-  -- `project`, and its front grown back
-  pub projected : (plan out out′ : List ℕ) → FullPlan o plan → length out ≡ o .n → length out′ ≡ o .n
-      → costOfPlan o (planAfter (reply o l e .«record») (take (reply o l e .counts .remaining) (answerAfter (reply o l e .«record») plan out)) out′) ≤ℤ costOfPlan o plan
+  pub grown : Grows o (reply o l e) (linearAfter o l e) (edgesAfter o l e)
+  pub projected : Projects o (reply o l e) (linearAfter o l e) (edgesAfter o l e)
 
 -- and from the record's block, where `write_record` is lent an output that holds b
 pub record ByBlock (o : Objective) (l e : List ℤ) (b : List ℕ) : Type 0 where
@@ -129,7 +152,10 @@ pub record ByBlock (o : Objective) (l e : List ℤ) (b : List ℕ) : Type 0 wher
   pub written : writeRefusal (reply o l e .«record») (length b) ≡ 0
   -- what is read is what was written
   pub read : reading (blockAfter (reply o l e .«record») b) ≡ record { answer = 0; «record» = reply o l e .«record» }
+  -- each call has the record's own number, and leaves what it leaves
+  pub grown-number : (answer : List ℕ) (out : ℕ) → growBlockRefusal (blockAfter (reply o l e .«record») b) answer out ≡ growRefusal (reply o l e .«record») answer out
   pub grown : (answer out : List ℕ) → blockPlanAfter (blockAfter (reply o l e .«record») b) answer out ≡ planAfter (reply o l e .«record») answer out
+  pub projected-number : (plan : List ℕ) (out : ℕ) → projectBlockRefusal (blockAfter (reply o l e .«record») b) plan out ≡ projectRefusal (reply o l e .«record») plan out
   pub projected : (plan out : List ℕ) → blockAnswerAfter (blockAfter (reply o l e .«record») b) plan out ≡ answerAfter (reply o l e .«record») plan out
 
 -- ---- the size rule, and the units

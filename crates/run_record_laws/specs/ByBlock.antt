@@ -1,8 +1,8 @@
 -- Demand 3 through a record's block: what is written is read again, and grows back and projects as the record itself.
 -- Assumes nothing.
-use mathlib.Core.Path.{_≡_, sym, ap, _∙_, subst}
-use mathlib.Core.Bool.{true, false}
-use mathlib.Core.List.{List, map}
+use mathlib.Core.Path.{_≡_, sym, ap, ap₂, _∙_, subst}
+use mathlib.Core.Bool.{Bool, true, false}
+use mathlib.Core.List.{List, _∷_, _++_, map}
 use Prim.Native.Nat.{ℕ, _-_}
 use native.Mathlib.Omega.{arith}
 use lib.ListN.{length, replicate, length-append, length-replicate, length-map}
@@ -11,7 +11,7 @@ use Rattle.whole.specs.Tests.{not-on, eqb-same}
 use Rattle.rules.specs.Objective.{Objective}
 use Rattle.rules.specs.Outcome.{outcomeOf, outcome}
 use Rattle.rules.specs.Record.{noStep, noRecord, hold, holdAll, recordOf, recordIn, blockOf, sound, broken}
-use Rattle.rules.specs.Refuse.{firstRow, answerRows, planRows, reduceRefusal, writeRefusal, growRefusal, projectRefusal, growBlockRefusal, projectBlockRefusal}
+use Rattle.rules.specs.Refuse.{firstRow, blockRows, answerRows, planRows, reduceRefusal, writeRefusal, growRefusal, projectRefusal, growBlockRefusal, projectBlockRefusal}
 use Rattle.rules.specs.Call.{unless, grown, projected, blockAfter, reading, planAfter, answerAfter, blockPlanAfter, blockAnswerAfter}
 use Rattle.rules.specs.declared.Record.{Record}
 use Rattle.rules.specs.declared.Reading.{Reading}
@@ -50,19 +50,25 @@ module _ (r : Record) (h : Held r) (s : sound r ≡ true) where
       readingOf : ℕ → Record → Reading
       readingOf k r = record { answer = k; «record» = r }
 
+  -- the block's rows pass, and the record that is read is r
+  below : (rows : Record → List (ℕ × Bool)) → firstRow (blockRows (blockOf r) ++ rows (recordIn (blockOf r))) ≡ firstRow ((12, broken r) ∷ rows r)
+  below rows = block-passed (blockOf r) (rows (recordIn (blockOf r))) (trip.reads r h unbroken) ∙ ap (λ (q : Record). firstRow (rows q)) same ∙ sym (no-row 12 (rows r) unbroken)
+
+  grown-number-is : (answer : List ℕ) (out : ℕ) → growBlockRefusal (blockOf r) answer out ≡ growRefusal r answer out
+  unfolding growBlockRefusal growRefusal
+  grown-number-is answer out = below (λ q. answerRows q answer out)
+
   grown-is : (answer out : List ℕ) → blockPlanAfter (blockOf r) answer out ≡ planAfter r answer out
-  unfolding blockPlanAfter planAfter growBlockRefusal growRefusal
-  grown-is answer out =
-      ap (λ (k : ℕ). unless k (grown (recordIn (blockOf r)) answer) out) (block-passed (blockOf r) (answerRows (recordIn (blockOf r)) answer (length out)) (trip.reads r h unbroken))
-      ∙ ap (λ (q : Record). unless (firstRow (answerRows q answer (length out))) (grown q answer) out) same
-      ∙ sym (ap (λ (k : ℕ). unless k (grown r answer) out) (no-row 12 (answerRows r answer (length out)) unbroken))
+  unfolding blockPlanAfter planAfter
+  grown-is answer out = ap₂ (λ (k : ℕ) (q : Record). unless k (grown q answer) out) (grown-number-is answer (length out)) same
+
+  projected-number-is : (plan : List ℕ) (out : ℕ) → projectBlockRefusal (blockOf r) plan out ≡ projectRefusal r plan out
+  unfolding projectBlockRefusal projectRefusal
+  projected-number-is plan out = below (λ q. planRows q plan out)
 
   projected-is : (plan out : List ℕ) → blockAnswerAfter (blockOf r) plan out ≡ answerAfter r plan out
-  unfolding blockAnswerAfter answerAfter projectBlockRefusal projectRefusal
-  projected-is plan out =
-      ap (λ (k : ℕ). unless k (projected (recordIn (blockOf r)) plan) out) (block-passed (blockOf r) (planRows (recordIn (blockOf r)) plan (length out)) (trip.reads r h unbroken))
-      ∙ ap (λ (q : Record). unless (firstRow (planRows q plan (length out))) (projected q plan) out) same
-      ∙ sym (ap (λ (k : ℕ). unless k (projected r plan) out) (no-row 12 (planRows r plan (length out)) unbroken))
+  unfolding blockAnswerAfter answerAfter
+  projected-is plan out = ap₂ (λ (k : ℕ) (q : Record). unless k (projected q plan) out) (projected-number-is plan (length out)) same
 
 -- ---- a reduction's record has all its places
 run-record-held : (o : Objective) → Fit o → Held (recordOf (o .n) (outcome o .constant) (outcome o .states) (outcome o .steps))
@@ -87,9 +93,12 @@ by-block o l e b accepted long =
     let h : Held (reply o l e .«record») = subst Held (sym is) (run-record-held o fit) in
     let s : sound (reply o l e .«record») ≡ true = ap sound is ∙ run-record-sound o fit in
     let r : Record = reply o l e .«record» in
+    let is-block = block-is r h s b long in
     record {
       written = written-fine r h s b long;
-      read = ap reading (block-is r h s b long) ∙ reading-is r h s;
-      grown = λ answer out. ap (λ (c : List ℕ). blockPlanAfter c answer out) (block-is r h s b long) ∙ grown-is r h s answer out;
-      projected = λ plan out. ap (λ (c : List ℕ). blockAnswerAfter c plan out) (block-is r h s b long) ∙ projected-is r h s plan out;
+      read = ap reading is-block ∙ reading-is r h s;
+      grown-number = λ answer out. ap (λ (c : List ℕ). growBlockRefusal c answer out) is-block ∙ grown-number-is r h s answer out;
+      grown = λ answer out. ap (λ (c : List ℕ). blockPlanAfter c answer out) is-block ∙ grown-is r h s answer out;
+      projected-number = λ plan out. ap (λ (c : List ℕ). projectBlockRefusal c plan out) is-block ∙ projected-number-is r h s plan out;
+      projected = λ plan out. ap (λ (c : List ℕ). blockAnswerAfter c plan out) is-block ∙ projected-is r h s plan out;
     }

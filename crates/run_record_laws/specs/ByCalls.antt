@@ -25,7 +25,7 @@ use Rattle.rules.specs.declared.Record.{Record}
 use Rattle.accepted_laws.specs.Accept.{Fit, Accepted, accept}
 use Rattle.sound_laws.specs.SoundStart.{statesFrom}
 use Rattle.size_laws.specs.RunWithin.{ended-within}
-use Rattle.demand_laws.specs.Demands.{Values, FullPlan, Answer, costOfPlan, reducedCost, costOfAnswer, grownBack, projection, reply, ByCalls}
+use Rattle.demand_laws.specs.Demands.{Values, FullPlan, Answer, costOfPlan, grownBack, projection, reply, Grows, Projects, ByCalls}
 use Rattle.demand_laws.specs.RunEnds.{endGraph, endSteps, end-states, end-taken, start-state, shown-remaining}
 use Rattle.demand_laws.specs.Theorems.{first-half, second-half}
 use Rattle.record_laws.specs.Steps.{steps-of-record}
@@ -68,20 +68,23 @@ module _ (o : Objective) (fit : Fit o) where
   unfolding outcome outcomeOf statesOf
   remaining-held = ap length (shown-remaining o fit)
 
-  pub plan-is : (answer out : List ℕ) → Answer o answer → length out ≡ o .n
-      → planAfter (recordOf (o .n) (outcome o .constant) (outcome o .states) (outcome o .steps)) answer out ≡ grownBack o answer
-  unfolding planAfter growRefusal statesOf
+  grow-fine : (answer out : List ℕ) → Answer o answer → length out ≡ o .n → growRefusal made answer (length out) ≡ 0
+  unfolding growRefusal statesOf
+  grow-fine answer out a h = no-row 12 _ (not-on (run-record-sound o fit)) ∙ bytes-fine made _ answer (length out) (a .long ∙ sym remaining-held) h (all-bits answer (a .bits))
+
+  plan-is : (answer out : List ℕ) → Answer o answer → length out ≡ o .n → planAfter made answer out ≡ grownBack o answer
+  unfolding planAfter statesOf
   plan-is answer out a h =
-      ap (λ (k : ℕ). unless k (growBack (take (o .n) (outcome o .states)) (stepsOf made) answer) out)
-      (no-row 12 _ (not-on (run-record-sound o fit)) ∙ bytes-fine made _ answer (length out) (a .long ∙ sym remaining-held) h (all-bits answer (a .bits)))
+      ap (λ (k : ℕ). unless k (growBack (take (o .n) (outcome o .states)) (stepsOf made) answer) out) (grow-fine answer out a h)
       ∙ ap (λ (ss : List rule.Step). growBack (take (o .n) (outcome o .states)) ss answer) (run-steps-held o fit)
 
-  pub answer-is : (plan out : List ℕ) → Values (o .n) plan → length out ≡ o .n
-      → answerAfter (recordOf (o .n) (outcome o .constant) (outcome o .states) (outcome o .steps)) plan out ≡ project (take (o .n) (outcome o .states)) plan
-  unfolding answerAfter projectRefusal statesOf
-  answer-is plan out v h =
-      ap (λ (k : ℕ). unless k (project (take (o .n) (outcome o .states)) plan) out)
-      (no-row 12 _ (not-on (run-record-sound o fit)) ∙ bytes-fine made (o .n) plan (length out) (v .long) h (all-bits plan (v .bits)))
+  project-fine : (plan out : List ℕ) → Values (o .n) plan → length out ≡ o .n → projectRefusal made plan (length out) ≡ 0
+  unfolding projectRefusal
+  project-fine plan out v h = no-row 12 _ (not-on (run-record-sound o fit)) ∙ bytes-fine made (o .n) plan (length out) (v .long) h (all-bits plan (v .bits))
+
+  answer-is : (plan out : List ℕ) → Values (o .n) plan → length out ≡ o .n → answerAfter made plan out ≡ project (take (o .n) (outcome o .states)) plan
+  unfolding answerAfter statesOf
+  answer-is plan out v h = ap (λ (k : ℕ). unless k (project (take (o .n) (outcome o .states)) plan) out) (project-fine plan out v h)
 
 -- ---- through the calls
 module _ (o : Objective) (l e : List ℤ) (accepted : reduceRefusal o (length l) (length e) ≡ 0) where
@@ -103,36 +106,33 @@ module _ (o : Objective) (l e : List ℤ) (accepted : reduceRefusal o (length l)
   unfolding edgesAfter
   edges-is = ap (λ (k : ℕ). unless k (outcome o .edges) e) accepted
 
-  -- both halves, of a reply r and outputs a and w
-  abbrev Grows : Reduction → List ℤ → List ℤ → Type 0
-  Grows r a w =
-      (answer out : List ℕ) → Values (r .counts .remaining) answer → length out ≡ o .n
-      → FullPlan o (planAfter (r .«record») answer out) × (costOfPlan o (planAfter (r .«record») answer out) ≡ reducedCost (r .«record» .constant) a w answer)
-
-  abbrev Projects : Reduction → Type 0
-  Projects r =
-      (plan out out′ : List ℕ) → FullPlan o plan → length out ≡ o .n → length out′ ≡ o .n
-      → costOfPlan o (planAfter (r .«record») (take (r .counts .remaining) (answerAfter (r .«record») plan out)) out′) ≤ℤ costOfPlan o plan
-
   count-is : outcome o .counts .remaining ≡ length (outcome o .remaining)
   unfolding outcome outcomeOf
   count-is = refl
 
-  reported-grows : Grows (reported (o .n) (outcome o)) (outcome o .linear) (outcome o .edges)
+  reported-grows : Grows o (reported (o .n) (outcome o)) (outcome o .linear) (outcome o .edges)
   reported-grows answer out v h =
       let a : Answer o answer = subst (λ (k : ℕ). Values k answer) count-is v in
-      subst (λ (plan : List ℕ). FullPlan o plan × (costOfPlan o plan ≡ costOfAnswer o answer)) (sym (plan-is o (whole .fit) answer out a h)) (first-half o accepted-lengths answer a)
+      let f = first-half o accepted-lengths answer a in
+      let plan = plan-is o (whole .fit) answer out a h in
+      record { fine = grow-fine o (whole .fit) answer out a h; full = subst (FullPlan o) (sym plan) (f .0); exact = ap (costOfPlan o) plan ∙ f .1 }
 
-  reported-projects : Projects (reported (o .n) (outcome o))
+  reported-projects : Projects o (reported (o .n) (outcome o)) (outcome o .linear) (outcome o .edges)
   reported-projects plan out out′ p h h′ =
       let q = second-half o accepted-lengths plan p in
-      let same : take (outcome o .counts .remaining) (answerAfter (made o (whole .fit)) plan out) ≡ projection o plan =
-      ap₂ (λ (k : ℕ) (xs : List ℕ). take k xs) count-is (answer-is o (whole .fit) plan out (p .values) h) in
-      subst (λ (answer : List ℕ). costOfPlan o (planAfter (made o (whole .fit)) answer out′) ≤ℤ costOfPlan o plan) (sym same)
-      (subst (λ (full : List ℕ). costOfPlan o full ≤ℤ costOfPlan o plan) (sym (plan-is o (whole .fit) (projection o plan) out′ (q .0) h′)) (q .1))
+      let front : List ℕ = take (outcome o .counts .remaining) (answerAfter (made o (whole .fit)) plan out) in
+      let same : front ≡ projection o plan = ap₂ (λ (k : ℕ) (xs : List ℕ). take k xs) count-is (answer-is o (whole .fit) plan out (p .values) h) in
+      let a : Answer o front = subst (Answer o) (sym same) (q .0) in
+      let v : Values (outcome o .counts .remaining) front = subst (λ (k : ℕ). Values k front) (sym count-is) a in
+      record {
+        fine = project-fine o (whole .fit) plan out (p .values) h;
+        answer = v;
+        grown = reported-grows front out′ v h′;
+        never = subst (λ (full : List ℕ). costOfPlan o full ≤ℤ costOfPlan o plan) (sym (plan-is o (whole .fit) front out′ a h′ ∙ ap (grownBack o) same)) (q .1);
+      }
 
   pub by-calls : ByCalls o l e
   by-calls = record {
-    grown = subst (λ (r : Reduction). Grows r (linearAfter o l e) (edgesAfter o l e)) (sym reply-is) (rw (linear-is, edges-is) reported-grows);
-    projected = subst Projects (sym reply-is) reported-projects;
+    grown = subst (λ (r : Reduction). Grows o r (linearAfter o l e) (edgesAfter o l e)) (sym reply-is) (rw (linear-is, edges-is) reported-grows);
+    projected = subst (λ (r : Reduction). Projects o r (linearAfter o l e) (edgesAfter o l e)) (sym reply-is) (rw (linear-is, edges-is) reported-projects);
   }
