@@ -11,7 +11,7 @@ use Rattle.rules.specs.Call.{unless, reading}
 use Rattle.rules.specs.declared.Record.{Record}
 use Rattle.rules.specs.declared.Reading.{Reading}
 use Rattle.accepted_laws.specs.Rows.{no-row, read-then, block-passed}
-use Rattle.record_laws.specs.RoundTrip.{accept}
+use Rattle.record_laws.specs.RoundTrip.{is-readable}
 use Rattle.back.specs.Calls.{Answers}
 
 -- ---- what was read of a block
@@ -25,7 +25,7 @@ module _ (b : List ℕ) (read : Reading) (is : read ≡ reading b) where
   read-record z = ap (λ (r : Reading). r .«record») is ∙ ap (λ (k : ℕ). unless k (recordIn b) noRecord) (sym read-number ∙ z)
 
   pub read-unbroken : read .answer ≡ 0 → broken (read .«record») ≡ false
-  read-unbroken z = ap broken (read-record z) ∙ ap not (accept b (sym read-number ∙ z) .unbroken)
+  read-unbroken z = ap broken (read-record z) ∙ ap not (is-readable b (sym read-number ∙ z) .unbroken)
 
 -- ---- what a call gives, whose slice held y and is to hold x
 -- a row holds

@@ -13,7 +13,7 @@ use Rattle.rules.specs.Refuse.{firstRow, readRefusal}
 use Rattle.rules.specs.declared.Reading.{Reading}
 use Rattle.rules.specs.Call.{reading}
 use Rattle.record_laws.specs.Bytes.{Bytes}
-use Rattle.record_laws.specs.RoundTrip.{accept, written-read}
+use Rattle.record_laws.specs.RoundTrip.{is-readable, written-read}
 use Rattle.back.specs.Calls.{done}
 use Rattle.back.specs.RefusalLaws.{refused, accepted, of-unread, of-read}
 use Rattle.balecreak.specs.Calls.{copyRefusal, Copied}
@@ -39,4 +39,4 @@ pub copied-same : (b out exit : List ℕ) → Bytes b → Copied b out 0 exit �
 unfolding copyRefusal readRefusal firstRow
 copied-same b out exit h g =
     let k = row-off 9 (not (eqb (length out) 512)) (readRefusal b) (λ z. omega arith) (sym (g .number-is)) .1 in
-    done (copyRefusal b (length out)) (blockOf (recordIn b)) out exit g ∙ written-read b h (accept b k .long) k
+    done (copyRefusal b (length out)) (blockOf (recordIn b)) out exit g ∙ written-read b h (is-readable b k .long) k

@@ -11,7 +11,7 @@ use Rattle.rules.specs.Refuse.{reduceRefusal, writeRefusal, growBlockRefusal, p
 use Rattle.rules.specs.Call.{reduction, blockAfter, reading, blockPlanAfter, blockAnswerAfter}
 use Rattle.rules.specs.declared.Reading.{Reading}
 use Rattle.rules.specs.declared.Reduction.{Reduction}
-use Rattle.demand_laws.specs.Demands.{Values, FullPlan, CostsExactly, NeverCostlier, reply}
+use Rattle.demand_laws.specs.Demands.{Values, FullPlan, CostsExactly, NeverCostlier, reductionFor}
 use Rattle.run_record_laws.specs.ByCalls.{by-calls}
 use Rattle.run_record_laws.specs.ByBlock.{by-block}
 use Rattle.record.specs.Promises.{Writes, Reads}
@@ -28,7 +28,7 @@ module _ (o : Objective) (l e l′ e′ : List ℤ) (r : Reduction) (gave : Give
   pub record-grown : (answer out exit : List ℕ) (k : ℕ) → Values (r .counts .remaining) answer → length out ≡ o .n → GrownBack (r .«record») answer out k exit
       → CostsExactly o r l′ e′ answer k exit
   record-grown answer out exit k v n g =
-      let v′ : Values (reply o l e .counts .remaining) answer = subst (λ (x : Reduction). Values (x .counts .remaining) answer) (gave .reduction) v in
+      let v′ : Values (reductionFor o l e .counts .remaining) answer = subst (λ (x : Reduction). Values (x .counts .remaining) answer) (gave .reduction) v in
       rw (g .number-is, g .slice-is, gave .reduction, gave .linear, gave .edges) (by-calls o l e accepted .grown answer out v′ n)
 
   -- a full plan projected by the record, and its front grown back: neither refused, the front an answer, what it grows to a full plan, never costlier
@@ -39,7 +39,7 @@ module _ (o : Objective) (l e l′ e′ : List ℤ) (r : Reduction) (gave : Give
 
   -- `write_record` was lent an output 512 long that held b
   module _ (b b′ : List ℕ) (number : ℕ) (long : length b ≡ 512) (wrote : Writes (r .«record») b number b′) where
-    same : b′ ≡ blockAfter (reply o l e .«record») b
+    same : b′ ≡ blockAfter (reductionFor o l e .«record») b
     same = wrote .1 ∙ ap (λ (x : Reduction). blockAfter (x .«record») b) (gave .reduction)
 
     -- a reduction's record is written

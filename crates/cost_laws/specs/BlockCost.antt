@@ -24,7 +24,7 @@ use Rattle.whole.specs.Sum.{Σ-cong}
 use Rattle.cost_laws.specs.Cost.{shift-≤, regroup, swap-last, when, when-zero, row-zero, rowCost, costOf, deltaOf}
 use Rattle.cost_laws.specs.CostLaws.{cost, Shaped, drop-cost, drop-lin, drop-own, drop-edge, drop-zero}
 use Rattle.whole.specs.Cmp.{zero-of}
-use Rattle.cost_laws.specs.EliminateLaws.{maskAt, odd-of, half-of, chosen-mask, shaped-drop, Pair, empty, single, double, absorb-cost}
+use Rattle.cost_laws.specs.EliminateLaws.{maskAt, odd-of, half-of, chosen-mask, shaped-drop, AtMostTwo, empty, single, double, absorb-cost}
 use Rattle.whole.specs.Pigeon.{Apart, none, one}
 use Rattle.whole.specs.Tests.{cases, clash, and-both, not-off, on-not, off-not, refuse, and-true}
 use Rattle.whole.specs.Members.{nobody, in-cons, in-head, in-tail, out-append, out-cons, out-of-cons, differ, in-those, to-those, in-upto, some-true, apart-head, apart-new, apart-tail, apart-left, apart-right, apart-below, apart-join, apart-those, apart-upto, upto-in}
@@ -290,7 +290,7 @@ boundary-inside g b i j mi lj out =
 pub whole-apart : (g : Graph) (b : List ℕ) → Apart (g .n) b → Apart (g .n) (b ++ boundary g b)
 whole-apart g b a = apart-join a (boundary-apart g b) (λ k m. refuse (mem k (boundary g b)) (λ t. clash m (boundary-outside g b k t)))
 
-pub pair-of : {n : ℕ} {js : List ℕ} → Apart n js → length js ≤ 2 → Pair n js
+pub pair-of : {n : ℕ} {js : List ℕ} → Apart n js → length js ≤ 2 → AtMostTwo n js
 pair-of none h = empty
 pair-of (one l m none) h = single l
 pair-of (one {x = j} l m (one {x = k} {xs = xs} l′ m′ none)) h = double l l′ (out-cons j k xs m .0)
@@ -307,7 +307,7 @@ module _ (g : Graph) (b : List ℕ) (s : Shaped g) (a : Apart (g .n) b) (l : len
   absorbed : (x : ℕ → Bool) → cost (eliminateBlock b g) x ≡ cost (dropAll b g) x +ℤ blockTable g b (maskAt x (boundary g b))
   unfolding eliminateBlock
   absorbed x = absorb-cost (dropAll b g) x (blockTable g b) (boundary g b) (drop-all-shaped b g s a)
-      (subst (λ (n : ℕ). Pair n (boundary g b)) (sym (drop-all-n b g)) (pair-of (boundary-apart g b) l))
+      (subst (λ (n : ℕ). AtMostTwo n (boundary g b)) (sym (drop-all-n b g)) (pair-of (boundary-apart g b) l))
 
   parted : (x : ℕ → Bool) → cost g x ≡ cost (dropAll b g) x +ℤ inner g (boundary g b) (maskAt x (boundary g b)) b (maskAt x b)
   parted x = inside-cost x (boundary g b) g b s (whole-apart g b a) (boundary-inside g b)

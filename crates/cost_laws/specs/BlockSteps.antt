@@ -47,9 +47,9 @@ pub choice-is : (f : ℕ → Bool) (c m : ℕ) → m < c → bit (bitsFrom f 0 c
 choice-is f c m l = ap (λ (z : ℕ). bit z m) (bits-digits f 0 c ∙ one-mul (digits f 0 c)) ∙ digit-is f c 0 m l ∙ ap f (zero-add m)
 
 -- ---- playing steps on a plan, last to first
-unfoldable pub played : List Step → (ℕ → Bool) → ℕ → Bool
-played [] x k = x k
-played (s ∷ ss) x k = cond (eqb k (s .decision)) (bit (s .choices) (maskAt (played ss x) (s .near))) (played ss x k)
+unfoldable pub playedBack : List Step → (ℕ → Bool) → ℕ → Bool
+playedBack [] x k = x k
+playedBack (s ∷ ss) x k = cond (eqb k (s .decision)) (bit (s .choices) (maskAt (playedBack ss x) (s .near))) (playedBack ss x k)
 
 module _ (g : Graph) (b : List ℕ) (x : ℕ → Bool) where
   abbrev best : ℕ
@@ -58,24 +58,24 @@ module _ (g : Graph) (b : List ℕ) (x : ℕ → Bool) where
   next-half : (m p : ℕ) → m / 2 ^ p / 2 ≡ m / 2 ^ suc p
   next-half m p = div-div-eq-div-mul m (2 ^ p) 2 ∙ ap (λ (z : ℕ). m / z) (sym (pow-suc 2 p))
 
-  played-put : (p : ℕ) (is : List ℕ) → ((k : ℕ) → mem k is ≡ true → mem k b ≡ true) → (k : ℕ) → played (blockSteps g b p is) x k ≡ put is (best / 2 ^ p) x k
-  unfolding played blockSteps put
+  played-put : (p : ℕ) (is : List ℕ) → ((k : ℕ) → mem k is ≡ true → mem k b ≡ true) → (k : ℕ) → playedBack (blockSteps g b p is) x k ≡ put is (best / 2 ^ p) x k
+  unfolding playedBack blockSteps put
   played-put p [] h k = refl
   played-put p (i ∷ is) h k =
-      let rest : (k : ℕ) → played (blockSteps g b (suc p) is) x k ≡ put is (best / 2 ^ suc p) x k = played-put (suc p) is (λ k m. h k (in-tail k i is m)) in
-      let same : maskAt (played (blockSteps g b (suc p) is) x) (boundary g b) ≡ maskAt x (boundary g b) =
-      mask-ext (played (blockSteps g b (suc p) is) x) x (boundary g b)
+      let rest : (k : ℕ) → playedBack (blockSteps g b (suc p) is) x k ≡ put is (best / 2 ^ suc p) x k = played-put (suc p) is (λ k m. h k (in-tail k i is m)) in
+      let same : maskAt (playedBack (blockSteps g b (suc p) is) x) (boundary g b) ≡ maskAt x (boundary g b) =
+      mask-ext (playedBack (blockSteps g b (suc p) is) x) x (boundary g b)
       (λ j t. rest j ∙ put-other is (best / 2 ^ suc p) x j (refuse (mem j is) (λ q. clash (h j (in-tail j i is q)) (boundary-outside g b j t)))) in
       ap₂ (λ (c d : Bool). cond (eqb k i) c d)
       (ap (bit (bitsFrom (λ f. bit (bestMask g b f) p) 0 (2 ^ length (boundary g b)))) same
       ∙ choice-is (λ f. bit (bestMask g b f) p) (2 ^ length (boundary g b)) (maskAt x (boundary g b)) (mask-below x (boundary g b)))
       (rest k ∙ ap (λ (m : ℕ). put is m x k) (sym (next-half best p)))
 
-  pub steps-settle : (k : ℕ) → played (blockSteps g b 0 b) x k ≡ put b best x k
+  pub steps-settle : (k : ℕ) → playedBack (blockSteps g b 0 b) x k ≡ put b best x k
   steps-settle k = played-put 0 b (λ k m. m) k ∙ ap (λ (m : ℕ). put b m x k) (div-one best)
 
 -- the reduced cost of a plan is the old cost of the plan grown back through the block's steps
 pub block-grown-back : (g : Graph) (b : List ℕ) → Shaped g → findBlock g ≡ members b → (x : ℕ → Bool)
-    → cost (eliminateBlock b g) x ≡ cost g (played (blockSteps g b 0 b) x)
+    → cost (eliminateBlock b g) x ≡ cost g (playedBack (blockSteps g b 0 b) x)
 block-grown-back g b s e x =
-    found-plan g b s e x ∙ cost-ext g (put b (bestMask g b (maskAt x (boundary g b))) x) (played (blockSteps g b 0 b) x) (λ k. sym (steps-settle g b x k))
+    found-plan g b s e x ∙ cost-ext g (put b (bestMask g b (maskAt x (boundary g b))) x) (playedBack (blockSteps g b 0 b) x) (λ k. sym (steps-settle g b x k))

@@ -18,7 +18,7 @@ use Rattle.whole.specs.Sum.{Σ<, Σ-cong, Σ-split}
 use Rattle.cost_laws.specs.Cost.{swap-last, last-second, when, when-zero, sum-zero, deltaOf}
 use Rattle.cost_laws.specs.CostLaws.{cost, Shaped, base-cost, lin-cost, edge-cost, drop-cost}
 use Rattle.cost_laws.specs.AbsorbLaws.{shaped-base, shaped-lin, shaped-edge}
-use Rattle.cost_laws.specs.EliminateLaws.{shaped-drop, over, over-nbrs}
+use Rattle.cost_laws.specs.EliminateLaws.{shaped-drop, sumOver, over-nbrs}
 use Rattle.cost_laws.specs.Growth.{in-nbrs}
 use Rattle.cost_laws.specs.ReduceLaws.{ReducedBy, Adds, walk-cost}
 
@@ -31,7 +31,7 @@ module _ (n j : ℕ) (x : ℕ → Bool) (walk : List ℕ → Graph → Graph) (u
     (none : (g : Graph) → walk [] g ≡ g)
     (next : (k : ℕ) (ks : List ℕ) (g : Graph) → walk (k ∷ ks) g ≡ walk ks (cond (eqb k j) g (update k g)))
     (adds : (k : ℕ) (g : Graph) → Shaped g → g .n ≡ n → k < n → j ≢ k → Adds n x (gain k) g (update k g)) where
-  but-cost : (ks : List ℕ) (g : Graph) → Shaped g → g .n ≡ n → ((k : ℕ) → mem k ks ≡ true → k < n) → cost (walk ks g) x ≡ cost g x +ℤ over (λ k. but j (gain k) k) ks
+  but-cost : (ks : List ℕ) (g : Graph) → Shaped g → g .n ≡ n → ((k : ℕ) → mem k ks ≡ true → k < n) → cost (walk ks g) x ≡ cost g x +ℤ sumOver (λ k. but j (gain k) k) ks
   but-cost = walk-cost n x walk (λ k g. cond (eqb k j) g (update k g)) (λ k. but j (gain k) k) none next (λ k g s e lk. go k g s e lk (eqb k j) refl)
     where
       go : (k : ℕ) (g : Graph) → Shaped g → g .n ≡ n → k < n → (c : Bool) → eqb k j ≡ c → Adds n x (cond c (pos 0) (gain k)) g (cond c g (update k g))
@@ -39,7 +39,7 @@ module _ (n j : ℕ) (x : ℕ → Bool) (walk : List ℕ → Graph → Graph) (u
       go k g s e lk false h = adds k g s e lk (λ p. eqb-false k j h (sym p))
 
 move-cost : (old : Graph) (i j : ℕ) (x : ℕ → Bool) (ks : List ℕ) (g : Graph) → Shaped g → j < g .n → ((k : ℕ) → mem k ks ≡ true → k < g .n)
-    → cost (move old i j ks g) x ≡ cost g x +ℤ over (λ k. but j (when (x j) (when (x k) (edge old i k))) k) ks
+    → cost (move old i j ks g) x ≡ cost g x +ℤ sumOver (λ k. but j (when (x j) (when (x k) (edge old i k))) k) ks
 unfolding move addEdge
 move-cost old i j x ks g s lj below =
     but-cost (g .n) j x (move old i j) (λ k. addEdge j k (edge old i k)) (λ k. when (x j) (when (x k) (edge old i k))) (λ h. refl) (λ k ks h. refl) adds ks g s refl below
@@ -62,7 +62,7 @@ split-off g i j x lj =
     Σ-split (g .n) j (λ k. when (x k) (edge g i k)) lj ∙ +ℤ-comm (when (x j) (edge g i j)) (offSum g i j x)
 
 -- the moved edges: nothing where x of j is 0, all but j's where it is 1
-moved-sum : (g : Graph) (i j : ℕ) (x : ℕ → Bool) → over (λ k. but j (when (x j) (when (x k) (edge g i k))) k) (neighbours g i) ≡ when (x j) (offSum g i j x)
+moved-sum : (g : Graph) (i j : ℕ) (x : ℕ → Bool) → sumOver (λ k. but j (when (x j) (when (x k) (edge g i k))) k) (neighbours g i) ≡ when (x j) (offSum g i j x)
 unfolding offSum
 moved-sum g i j x =
     over-nbrs g i (λ k. but j (when (x j) (when (x k) (edge g i k))) k) (λ k e. gone k (eqb k j) e) ∙ pull (x j)
@@ -115,7 +115,7 @@ abbrev turned : (ℕ → Bool) → Bool → ℤ → ℕ → ℤ
 turned x b w k = when (x k) w +ℤ when b (when (x k) (negℤ w))
 
 turn-cost : (old : Graph) (i j : ℕ) (x : ℕ → Bool) (ks : List ℕ) (g : Graph) → Shaped g → j < g .n → ((k : ℕ) → mem k ks ≡ true → k < g .n)
-    → cost (turn old i j ks g) x ≡ cost g x +ℤ over (λ k. but j (turned x (x j) (edge old i k) k) k) ks
+    → cost (turn old i j ks g) x ≡ cost g x +ℤ sumOver (λ k. but j (turned x (x j) (edge old i k) k) k) ks
 unfolding turn addEdge addLinear
 turn-cost old i j x ks g s lj below =
     but-cost (g .n) j x (turn old i j) (λ k h. addEdge j k (negℤ (edge old i k)) (addLinear k (edge old i k) h)) (λ k. turned x (x j) (edge old i k) k) (λ h. refl) (λ k ks h. refl) adds ks g s refl
@@ -135,7 +135,7 @@ turn-cost old i j x ks g s lj below =
               ∙ +ℤ-assoc (cost h x) (when (x k) (edge old i k)) (when (x j) (when (x k) (negℤ (edge old i k))));
         }
 
-turned-sum : (g : Graph) (i j : ℕ) (x : ℕ → Bool) → over (λ k. but j (turned x (x j) (edge g i k) k) k) (neighbours g i) ≡ when (not (x j)) (offSum g i j x)
+turned-sum : (g : Graph) (i j : ℕ) (x : ℕ → Bool) → sumOver (λ k. but j (turned x (x j) (edge g i k) k) k) (neighbours g i) ≡ when (not (x j)) (offSum g i j x)
 unfolding offSum
 turned-sum g i j x = over-nbrs g i (λ k. but j (turned x (x j) (edge g i k) k) k) (λ k e. gone k (eqb k j) (x k) (x j) e) ∙ pull (x j)
   where

@@ -16,7 +16,7 @@ use Rattle.rules.specs.DominantEdge.{negatives, positives, lo, hi, positive, up
 use Rattle.whole.specs.Sum.{Σ<}
 use Rattle.cost_laws.specs.Cost.{when, when-zero, deltaOf}
 use Rattle.cost_laws.specs.CostLaws.{cost, Shaped}
-use Rattle.cost_laws.specs.EliminateLaws.{over, over-nbrs}
+use Rattle.cost_laws.specs.EliminateLaws.{sumOver, over-nbrs}
 use Rattle.cost_laws.specs.ReduceLaws.{ReducedBy, never-more}
 use Rattle.cost_laws.specs.ContractLaws.{move-reduces, turn-reduces}
 use Rattle.cost_laws.specs.Growth.{in-nbrs}
@@ -40,36 +40,36 @@ there : (a b c p q r : ℤ) → a ≤ℤ p → (b +ℤ c) ≤ℤ (q +ℤ r) → 
 there a b c p q r h k = simp ints (omega (zarith, simp ints at k))
 
 module _ (x : ℕ → Bool) (w : ℕ → ℤ) where
-  sum-low : (ks : List ℕ) → negatives (map w ks) ≤ℤ over (λ k. when (x k) (w k)) ks
-  unfolding negatives over
+  sum-low : (ks : List ℕ) → negatives (map w ks) ≤ℤ sumOver (λ k. when (x k) (w k)) ks
+  unfolding negatives sumOver
   sum-low [] = simp ints (omega zarith)
   sum-low (k ∷ ks) = sums (part-low (x k) (w k)) (sum-low ks)
 
-  sum-high : (ks : List ℕ) → over (λ k. when (x k) (w k)) ks ≤ℤ positives (map w ks)
-  unfolding positives over
+  sum-high : (ks : List ℕ) → sumOver (λ k. when (x k) (w k)) ks ≤ℤ positives (map w ks)
+  unfolding positives sumOver
   sum-high [] = simp ints (omega zarith)
   sum-high (k ∷ ks) = sums (part-high (x k) (w k)) (sum-high ks)
 
   -- with j's own part as it is
-  own-low : (j : ℕ) (ks : List ℕ) → mem j ks ≡ true → (negatives (map w ks) +ℤ when (x j) (w j)) ≤ℤ (over (λ k. when (x k) (w k)) ks +ℤ below0 (w j))
-  unfolding negatives over mem
+  own-low : (j : ℕ) (ks : List ℕ) → mem j ks ≡ true → (negatives (map w ks) +ℤ when (x j) (w j)) ≤ℤ (sumOver (λ k. when (x k) (w k)) ks +ℤ below0 (w j))
+  unfolding negatives sumOver mem
   own-low j [] m = clash m refl
   own-low j (k ∷ ks) m = in-cons j k ks m
-      (λ e. subst (λ (i : ℕ). (below0 (w k) +ℤ negatives (map w ks) +ℤ when (x i) (w i)) ≤ℤ (when (x k) (w k) +ℤ over (λ k. when (x k) (w k)) ks +ℤ below0 (w i))) (sym e)
-      (here (below0 (w k)) (negatives (map w ks)) (when (x k) (w k)) (over (λ k. when (x k) (w k)) ks) (sum-low ks)))
-      (λ r. there (below0 (w k)) (negatives (map w ks)) (when (x j) (w j)) (when (x k) (w k)) (over (λ k. when (x k) (w k)) ks) (below0 (w j)) (part-low (x k) (w k)) (own-low j ks r))
+      (λ e. subst (λ (i : ℕ). (below0 (w k) +ℤ negatives (map w ks) +ℤ when (x i) (w i)) ≤ℤ (when (x k) (w k) +ℤ sumOver (λ k. when (x k) (w k)) ks +ℤ below0 (w i))) (sym e)
+      (here (below0 (w k)) (negatives (map w ks)) (when (x k) (w k)) (sumOver (λ k. when (x k) (w k)) ks) (sum-low ks)))
+      (λ r. there (below0 (w k)) (negatives (map w ks)) (when (x j) (w j)) (when (x k) (w k)) (sumOver (λ k. when (x k) (w k)) ks) (below0 (w j)) (part-low (x k) (w k)) (own-low j ks r))
 
-  own-high : (j : ℕ) (ks : List ℕ) → mem j ks ≡ true → (over (λ k. when (x k) (w k)) ks +ℤ above0 (w j)) ≤ℤ (positives (map w ks) +ℤ when (x j) (w j))
-  unfolding positives over mem
+  own-high : (j : ℕ) (ks : List ℕ) → mem j ks ≡ true → (sumOver (λ k. when (x k) (w k)) ks +ℤ above0 (w j)) ≤ℤ (positives (map w ks) +ℤ when (x j) (w j))
+  unfolding positives sumOver mem
   own-high j [] m = clash m refl
   own-high j (k ∷ ks) m = in-cons j k ks m
-      (λ e. subst (λ (i : ℕ). (when (x k) (w k) +ℤ over (λ k. when (x k) (w k)) ks +ℤ above0 (w i)) ≤ℤ (above0 (w k) +ℤ positives (map w ks) +ℤ when (x i) (w i))) (sym e)
-      (here (when (x k) (w k)) (over (λ k. when (x k) (w k)) ks) (above0 (w k)) (positives (map w ks)) (sum-high ks)))
-      (λ r. there (when (x k) (w k)) (over (λ k. when (x k) (w k)) ks) (above0 (w j)) (above0 (w k)) (positives (map w ks)) (when (x j) (w j)) (part-high (x k) (w k)) (own-high j ks r))
+      (λ e. subst (λ (i : ℕ). (when (x k) (w k) +ℤ sumOver (λ k. when (x k) (w k)) ks +ℤ above0 (w i)) ≤ℤ (above0 (w k) +ℤ positives (map w ks) +ℤ when (x i) (w i))) (sym e)
+      (here (when (x k) (w k)) (sumOver (λ k. when (x k) (w k)) ks) (above0 (w k)) (positives (map w ks)) (sum-high ks)))
+      (λ r. there (when (x k) (w k)) (sumOver (λ k. when (x k) (w k)) ks) (above0 (w j)) (above0 (w k)) (positives (map w ks)) (when (x j) (w j)) (part-high (x k) (w k)) (own-high j ks r))
 
 -- delta of i at a plan lies between lo and hi, where j's edge w counts as it is
 module _ (g : Graph) (i j : ℕ) (m : mem j (neighbours g i) ≡ true) (x : ℕ → Bool) where
-  over-is : over (λ k. when (x k) (edge g i k)) (neighbours g i) ≡ Σ< (g .n) (λ k. when (x k) (edge g i k))
+  over-is : sumOver (λ k. when (x k) (edge g i k)) (neighbours g i) ≡ Σ< (g .n) (λ k. when (x k) (edge g i k))
   over-is = over-nbrs g i (λ k. when (x k) (edge g i k)) (λ k e. ap (when (x k)) e ∙ when-zero (x k))
 
   delta-low : (lo g i +ℤ when (x j) (edge g i j)) ≤ℤ (deltaOf (g .n) (lin g) (edge g) x i +ℤ below0 (edge g i j))

@@ -26,9 +26,9 @@ maskAt x [] = 0
 maskAt x (j ∷ js) = oneIf (x j) + 2 * maskAt x js
 
 -- the sum of F over a list
-unfoldable pub over : (ℕ → ℤ) → List ℕ → ℤ
-over F [] = pos 0
-over F (j ∷ js) = F j +ℤ over F js
+unfoldable pub sumOver : (ℕ → ℤ) → List ℕ → ℤ
+sumOver F [] = pos 0
+sumOver F (j ∷ js) = F j +ℤ sumOver F js
 
 pub odd-of : (b : Bool) (m : ℕ) → odd (oneIf b + 2 * m) ≡ b
 odd-of true m = ap (λ (r : ℕ). eqb r 1) r₁
@@ -44,37 +44,37 @@ pub half-of : (b : Bool) (m : ℕ) → (oneIf b + 2 * m) / 2 ≡ m
 half-of true m = omega arith
 half-of false m = omega arith
 
-pub chosen-mask : (x : ℕ → Bool) (w : ℕ → ℤ) (js : List ℕ) → chosen (map w js) (maskAt x js) ≡ over (λ j. when (x j) (w j)) js
-unfolding chosen maskAt over
+pub chosen-mask : (x : ℕ → Bool) (w : ℕ → ℤ) (js : List ℕ) → chosen (map w js) (maskAt x js) ≡ sumOver (λ j. when (x j) (w j)) js
+unfolding chosen maskAt sumOver
 chosen-mask x w [] = refl
 chosen-mask x w (j ∷ js) =
     ap₂ (λ (b : Bool) (m : ℕ). when b (w j) +ℤ chosen (map w js) m) (odd-of (x j) (maskAt x js)) (half-of (x j) (maskAt x js))
     ∙ ap (λ (z : ℤ). when (x j) (w j) +ℤ z) (chosen-mask x w js)
 
-over-from : (F : ℕ → ℤ) (k c : ℕ) → over F (from k (suc c)) ≡ over F (from k c) +ℤ F (k + c)
-unfolding over from
+over-from : (F : ℕ → ℤ) (k c : ℕ) → sumOver F (from k (suc c)) ≡ sumOver F (from k c) +ℤ F (k + c)
+unfolding sumOver from
 over-from F k zero = +ℤ-idr (F k) ∙ ap F (sym (add-zero k)) ∙ sym (+ℤ-idl (F (k + zero)))
 over-from F k (suc c) =
-    ap (λ (z : ℤ). F k +ℤ z) (over-from F (suc k) c ∙ ap (λ (m : ℕ). over F (from (suc k) c) +ℤ F m) (shift k c)) ∙ sym (+ℤ-assoc (F k) (over F (from (suc k) c)) (F (k + suc c)))
+    ap (λ (z : ℤ). F k +ℤ z) (over-from F (suc k) c ∙ ap (λ (m : ℕ). sumOver F (from (suc k) c) +ℤ F m) (shift k c)) ∙ sym (+ℤ-assoc (F k) (sumOver F (from (suc k) c)) (F (k + suc c)))
 
-pub over-upto : (F : ℕ → ℤ) (n : ℕ) → over F (upto n) ≡ Σ< n F
-unfolding over from Σ<
+pub over-upto : (F : ℕ → ℤ) (n : ℕ) → sumOver F (upto n) ≡ Σ< n F
+unfolding sumOver from Σ<
 over-upto F zero = refl
 over-upto F (suc n) = over-from F 0 n ∙ ap₂ (λ (a b : ℤ). a +ℤ b) (over-upto F n) (ap F (zero-add n))
 
 -- what is left out of a sum is 0
-pub over-those : (F w : ℕ → ℤ) → ((k : ℕ) → w k ≡ pos 0 → F k ≡ pos 0) → (js : List ℕ) → over F (those (λ j. not (isZeroZ (w j))) js) ≡ over F js
-unfolding over those
+pub over-those : (F w : ℕ → ℤ) → ((k : ℕ) → w k ≡ pos 0 → F k ≡ pos 0) → (js : List ℕ) → sumOver F (those (λ j. not (isZeroZ (w j))) js) ≡ sumOver F js
+unfolding sumOver those
 over-those F w h [] = refl
 over-those F w h (j ∷ js) = go (isZeroZ (w j)) refl (over-those F w h js)
   where
-    go : (b : Bool) → isZeroZ (w j) ≡ b → over F (those (λ j. not (isZeroZ (w j))) js) ≡ over F js
-        → over F (cond (not b) (j ∷ those (λ j. not (isZeroZ (w j))) js) (those (λ j. not (isZeroZ (w j))) js)) ≡ F j +ℤ over F js
-    go true e r = r ∙ sym (ap (λ (z : ℤ). z +ℤ over F js) (h j (zero-of (w j) e)) ∙ +ℤ-idl (over F js))
+    go : (b : Bool) → isZeroZ (w j) ≡ b → sumOver F (those (λ j. not (isZeroZ (w j))) js) ≡ sumOver F js
+        → sumOver F (cond (not b) (j ∷ those (λ j. not (isZeroZ (w j))) js) (those (λ j. not (isZeroZ (w j))) js)) ≡ F j +ℤ sumOver F js
+    go true e r = r ∙ sym (ap (λ (z : ℤ). z +ℤ sumOver F js) (h j (zero-of (w j) e)) ∙ +ℤ-idl (sumOver F js))
     go false e r = ap (λ (z : ℤ). F j +ℤ z) r
 
 -- a sum over i's neighbours is the sum over all
-pub over-nbrs : (g : Graph) (i : ℕ) (F : ℕ → ℤ) → ((k : ℕ) → edge g i k ≡ pos 0 → F k ≡ pos 0) → over F (neighbours g i) ≡ Σ< (g .n) F
+pub over-nbrs : (g : Graph) (i : ℕ) (F : ℕ → ℤ) → ((k : ℕ) → edge g i k ≡ pos 0 → F k ≡ pos 0) → sumOver F (neighbours g i) ≡ Σ< (g .n) F
 unfolding neighbours
 over-nbrs g i F h = over-those F (edge g i) h (upto (g .n)) ∙ over-upto F (g .n)
 
@@ -107,12 +107,12 @@ shaped-drop t i g s li = record {
     own p lp (no np) = drop-edge g s t i li p p lp lp np np ∙ s .self p lp
 
 -- at most two decisions, each below n and different
-pub data Pair (n : ℕ) : List ℕ → Type 0 where
-  empty : Pair n []
-  single : {j : ℕ} → j < n → Pair n (j ∷ [])
-  double : {j k : ℕ} → j < n → k < n → j ≢ k → Pair n (j ∷ k ∷ [])
+pub data AtMostTwo (n : ℕ) : List ℕ → Type 0 where
+  empty : AtMostTwo n []
+  single : {j : ℕ} → j < n → AtMostTwo n (j ∷ [])
+  double : {j k : ℕ} → j < n → k < n → j ≢ k → AtMostTwo n (j ∷ k ∷ [])
 
-pub absorb-cost : (g : Graph) (x : ℕ → Bool) (t : ℕ → ℤ) (ns : List ℕ) → Shaped g → Pair (g .n) ns → cost (absorb t ns g) x ≡ cost g x +ℤ t (maskAt x ns)
+pub absorb-cost : (g : Graph) (x : ℕ → Bool) (t : ℕ → ℤ) (ns : List ℕ) → Shaped g → AtMostTwo (g .n) ns → cost (absorb t ns g) x ≡ cost g x +ℤ t (maskAt x ns)
 unfolding maskAt
 absorb-cost g x t [] s empty = none-of g x t
 absorb-cost g x t (j ∷ []) s (single lj) = one-of g x t j s lj ∙ ap (λ (m : ℕ). cost g x +ℤ t m) plain

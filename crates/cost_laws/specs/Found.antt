@@ -25,7 +25,7 @@ abbrev pub Tidy : Graph → Type 0
 Tidy g = (i j : ℕ) → i < g .n → mem j (neighbours g i) ≡ true → active g j ≡ true
 
 -- b is the component of a seed, with `aside` set aside
-pub record Taken (g : Graph) (aside b : List ℕ) : Type 0 where
+pub record SeedComponent (g : Graph) (aside b : List ℕ) : Type 0 where
   pub seed : ℕ
   pub is : b ≡ component (neighbours g) aside seed
   pub live : mem seed (actives g) ≡ true
@@ -41,7 +41,7 @@ pub none-members : {b : List ℕ} → none ≡ members b → ⊥
 none-members e = let z : _≡_ {A = ℕ} 0 1 = cc in omega arith
 
 among-taken : (g : Graph) (aside seen ss b : List ℕ) → ((k : ℕ) → mem k aside ≡ true → mem k seen ≡ true) → ((k : ℕ) → mem k ss ≡ true → mem k (actives g) ≡ true)
-    → among (neighbours g) aside seen ss ≡ members b → Taken g aside b
+    → among (neighbours g) aside seen ss ≡ members b → SeedComponent g aside b
 unfolding among
 among-taken g aside seen [] b h live e = absurd (none-members e)
 among-taken g aside seen (s ∷ ss) b h live e = first (mem s seen) refl e
@@ -50,7 +50,7 @@ among-taken g aside seen (s ∷ ss) b h live e = first (mem s seen) refl e
   where
     second : (c : Bool) → small (component (neighbours g) aside s) ≡ c → mem s seen ≡ false
         → cond c (members (component (neighbours g) aside s)) (among (neighbours g) aside (seen ++ component (neighbours g) aside s) ss) ≡ members b
-        → (among (neighbours g) aside (seen ++ component (neighbours g) aside s) ss ≡ members b → Taken g aside b) → Taken g aside b
+        → (among (neighbours g) aside (seen ++ component (neighbours g) aside s) ss ≡ members b → SeedComponent g aside b) → SeedComponent g aside b
     second true t n e f =
         let same : component (neighbours g) aside s ≡ b = cc in
         record {
@@ -64,7 +64,7 @@ among-taken g aside seen (s ∷ ss) b h live e = first (mem s seen) refl e
 
     first : (c : Bool) → mem s seen ≡ c
         → cond c (among (neighbours g) aside seen ss) (cond (small (component (neighbours g) aside s)) (members (component (neighbours g) aside s)) (among (neighbours g) aside (seen ++ component (neighbours g) aside s) ss)) ≡ members b
-        → (among (neighbours g) aside seen ss ≡ members b → Taken g aside b) → (among (neighbours g) aside (seen ++ component (neighbours g) aside s) ss ≡ members b → Taken g aside b) → Taken g aside b
+        → (among (neighbours g) aside seen ss ≡ members b → SeedComponent g aside b) → (among (neighbours g) aside (seen ++ component (neighbours g) aside s) ss ≡ members b → SeedComponent g aside b) → SeedComponent g aside b
     first true n e p q = p e
     first false n e p q = second (small (component (neighbours g) aside s)) refl n e q
 
@@ -77,7 +77,7 @@ pub record Cut (g : Graph) (removed b : List ℕ) : Type 0 where
   pub cut : ℕ
   pub is : isCut (neighbours g) removed cut ≡ true
   pub live : mem cut (actives g) ≡ true
-  pub taken : Taken g (cut ∷ removed) b
+  pub taken : SeedComponent g (cut ∷ removed) b
 
 over-cuts : (g : Graph) (removed cs b : List ℕ) → ((k : ℕ) → mem k cs ≡ true → mem k (actives g) ≡ true)
     → overCuts (neighbours g) (actives g) removed cs ≡ members b → Cut g removed b

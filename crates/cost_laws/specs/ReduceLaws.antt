@@ -18,7 +18,7 @@ use Rattle.whole.specs.Sum.{Σ<}
 use Rattle.cost_laws.specs.Cost.{shift-≤, regroup, last-second, when, when-zero, deltaOf}
 use Rattle.cost_laws.specs.CostLaws.{cost, Shaped, base-cost, lin-cost, drop-cost}
 use Rattle.cost_laws.specs.AbsorbLaws.{shaped-base, shaped-lin}
-use Rattle.cost_laws.specs.EliminateLaws.{maskAt, Pair, delta-at, shaped-drop, absorb-cost, over, over-nbrs}
+use Rattle.cost_laws.specs.EliminateLaws.{maskAt, AtMostTwo, delta-at, shaped-drop, absorb-cost, sumOver, over-nbrs}
 use Rattle.whole.specs.Members.{in-head, in-tail}
 use Rattle.cost_laws.specs.Growth.{in-nbrs}
 
@@ -44,7 +44,7 @@ absorbed-reduces g g′ i s li h = record { costs = λ x. all x }
         ap (λ (z : ℤ). z +ℤ own) (h x) ∙ regroup (cost (dropTo 3 i g) x) t own
         ∙ ap₂ (λ (u v : ℤ). u +ℤ when (choiceAt g i x) v) (sym (drop-cost g x 3 i s li)) (delta-at g x i)
 
-pub eliminate-absorbed : (g : Graph) (i : ℕ) → Shaped g → i < g .n → Pair (g .n) (neighbours g i) → Absorbed i g (eliminate i g)
+pub eliminate-absorbed : (g : Graph) (i : ℕ) → Shaped g → i < g .n → AtMostTwo (g .n) (neighbours g i) → Absorbed i g (eliminate i g)
 unfolding eliminate dropTo
 eliminate-absorbed g i s li p x = absorb-cost (dropTo 3 i g) x (tee g i) (neighbours g i) (shaped-drop 3 i g s li) p
 
@@ -87,19 +87,19 @@ module _ (n : ℕ) (x : ℕ → Bool) (walk : List ℕ → Graph → Graph) (upd
     (none : (g : Graph) → walk [] g ≡ g)
     (next : (k : ℕ) (ks : List ℕ) (g : Graph) → walk (k ∷ ks) g ≡ walk ks (update k g))
     (adds : (k : ℕ) (g : Graph) → Shaped g → g .n ≡ n → k < n → Adds n x (gain k) g (update k g)) where
-  pub walk-cost : (ks : List ℕ) (g : Graph) → Shaped g → g .n ≡ n → ((k : ℕ) → mem k ks ≡ true → k < n) → cost (walk ks g) x ≡ cost g x +ℤ over gain ks
-  unfolding over
+  pub walk-cost : (ks : List ℕ) (g : Graph) → Shaped g → g .n ≡ n → ((k : ℕ) → mem k ks ≡ true → k < n) → cost (walk ks g) x ≡ cost g x +ℤ sumOver gain ks
+  unfolding sumOver
   walk-cost [] g s e below = ap (λ (h : Graph). cost h x) (none g) ∙ sym (+ℤ-idr (cost g x))
   walk-cost (k ∷ ks) g s e below =
       let a : Adds n x (gain k) g (update k g) = adds k g s e (below k (in-head k ks)) in
       ap (λ (h : Graph). cost h x) (next k ks g)
       ∙ walk-cost ks (update k g) (a .shaped) (a .as-many) (λ j m. below j (in-tail j k ks m))
-      ∙ ap (λ (z : ℤ). z +ℤ over gain ks) (a .paid)
-      ∙ +ℤ-assoc (cost g x) (gain k) (over gain ks)
+      ∙ ap (λ (z : ℤ). z +ℤ sumOver gain ks) (a .paid)
+      ∙ +ℤ-assoc (cost g x) (gain k) (sumOver gain ks)
 
 -- ---- fixing is a reduction whose choice is the value
 spread-cost : (old : Graph) (i : ℕ) (x : ℕ → Bool) (ks : List ℕ) (g : Graph) → Shaped g → ((k : ℕ) → mem k ks ≡ true → k < g .n)
-    → cost (spread old i ks g) x ≡ cost g x +ℤ over (λ k. when (x k) (edge old i k)) ks
+    → cost (spread old i ks g) x ≡ cost g x +ℤ sumOver (λ k. when (x k) (edge old i k)) ks
 unfolding spread addLinear
 spread-cost old i x ks g s below =
     walk-cost (g .n) x (spread old i) (λ k. addLinear k (edge old i k)) (λ k. when (x k) (edge old i k)) (λ h. refl) (λ k ks h. refl)

@@ -75,28 +75,28 @@ run-keeps opt P step (suc b) s p = more (next opt s) refl (run-keeps opt P step 
 
 -- ---- more budget, same path
 -- the steps of t begin with those of s
-pub record Begins (s t : List Step) : Type 0 where
+pub record Prefix (s t : List Step) : Type 0 where
   pub then : List Step
   pub is : t ≡ s ++ then
 
-begins-refl : (s : List Step) → Begins s s
-begins-refl s = record { then = []; is = sym (append-nil s) }
+prefix-refl : (s : List Step) → Prefix s s
+prefix-refl s = record { then = []; is = sym (append-nil s) }
 
-begins-trans : {a b c : List Step} → Begins a b → Begins b c → Begins a c
-begins-trans {a} {b} {c} p q = record { then = p .then ++ q .then; is = q .is ∙ ap (λ (l : List Step). l ++ q .then) (p .is) ∙ append-assoc a (p .then) (q .then) }
+prefix-trans : {a b c : List Step} → Prefix a b → Prefix b c → Prefix a c
+prefix-trans {a} {b} {c} p q = record { then = p .then ++ q .then; is = q .is ∙ ap (λ (l : List Step). l ++ q .then) (p .is) ∙ append-assoc a (p .then) (q .then) }
 
-go-steps : (w : Way) (opt : Options) (i : ℕ) (s : State) → Begins (s .steps) (go w opt i s .steps)
+go-steps : (w : Way) (opt : Options) (i : ℕ) (s : State) → Prefix (s .steps) (go w opt i s .steps)
 unfolding go reduced skipped
-go-steps inactive opt i s = begins-refl (s .steps)
+go-steps inactive opt i s = prefix-refl (s .steps)
 go-steps low opt i s = record { then = _; is = refl }
 go-steps (into j) opt i s = record { then = _; is = refl }
 go-steps three opt i s = record { then = _; is = refl }
-go-steps failed opt i s = begins-refl (s .steps)
-go-steps idle opt i s = begins-refl (s .steps)
+go-steps failed opt i s = prefix-refl (s .steps)
+go-steps idle opt i s = prefix-refl (s .steps)
 
 Longer : State → Next → Type 0
 Longer s over = Unit {0}
-Longer s (due t) = Begins (s .steps) (t .steps)
+Longer s (due t) = Prefix (s .steps) (t .steps)
 
 block-longer : (opt : Options) (s : State) (b : Block) → Longer s (dueBlock opt s b)
 unfolding Longer dueBlock blocked
@@ -108,23 +108,23 @@ unfolding Longer dueAt takeFront
 due-longer opt s [] = block-longer opt s (cond (smallBlock opt) (findBlock (s .graph)) none)
 due-longer opt s (i ∷ q) = go-steps (way opt (s .graph) i) opt i (takeFront q s)
 
-run-longer : (c : ℕ) (opt : Options) (s : State) → Begins (s .steps) (run c opt s .state .steps)
+run-longer : (c : ℕ) (opt : Options) (s : State) → Prefix (s .steps) (run c opt s .state .steps)
 unfolding Longer
-run-longer c opt s = run-keeps opt (λ t. Begins (s .steps) (t .steps)) (λ a t e p. begins-trans p (subst (Longer a) e (due-longer opt a (a .queue)))) c s (begins-refl (s .steps))
+run-longer c opt s = run-keeps opt (λ t. Prefix (s .steps) (t .steps)) (λ a t e p. prefix-trans p (subst (Longer a) e (due-longer opt a (a .queue)))) c s (prefix-refl (s .steps))
 
 -- the steps of a smaller budget begin those of a larger one
-pub budget-path : (b c : ℕ) (opt : Options) (s : State) → b ≤ c → Begins (run b opt s .state .steps) (run c opt s .state .steps)
+pub budget-path : (b c : ℕ) (opt : Options) (s : State) → b ≤ c → Prefix (run b opt s .state .steps) (run c opt s .state .steps)
 unfolding run
 budget-path zero c opt s h = end (next opt s) (run-longer c opt s)
   where
-    end : (x : Next) → Begins (s .steps) (run c opt s .state .steps)
-        → Begins (onward x s (λ t. record { state = s; complete = false }) .state .steps) (run c opt s .state .steps)
+    end : (x : Next) → Prefix (s .steps) (run c opt s .state .steps)
+        → Prefix (onward x s (λ t. record { state = s; complete = false }) .state .steps) (run c opt s .state .steps)
     end over r = r
     end (due t) r = r
 budget-path (suc b) zero opt s h = absurd (not-suc-le-zero h)
 budget-path (suc b) (suc c) opt s h = more (next opt s) (λ t. budget-path b c opt t (le-of-suc-le-suc h))
   where
-    more : (x : Next) → ((t : State) → Begins (run b opt t .state .steps) (run c opt t .state .steps))
-        → Begins (onward x s (λ t. run b opt t) .state .steps) (onward x s (λ t. run c opt t) .state .steps)
-    more over r = begins-refl (s .steps)
+    more : (x : Next) → ((t : State) → Prefix (run b opt t .state .steps) (run c opt t .state .steps))
+        → Prefix (onward x s (λ t. run b opt t) .state .steps) (onward x s (λ t. run c opt t) .state .steps)
+    more over r = prefix-refl (s .steps)
     more (due t) r = r t

@@ -24,7 +24,7 @@ use Rattle.rules.specs.SmallBlock.{dropAll, boundary, blockTable, eliminateBloc
 use Rattle.cost_laws.specs.CostLaws.{Shaped, in64, drop-own, drop-lin}
 use Rattle.cost_laws.specs.AbsorbLaws.{shaped-base, shaped-lin, shaped-edge}
 use Rattle.whole.specs.Cmp.{zero-of}
-use Rattle.cost_laws.specs.EliminateLaws.{shaped-drop, Pair, empty, single, double}
+use Rattle.cost_laws.specs.EliminateLaws.{shaped-drop, AtMostTwo, empty, single, double}
 use Rattle.cost_laws.specs.DegreeThreeLaws.{Triple, triple}
 use Rattle.cost_laws.specs.Growth.{in-nbrs}
 use Rattle.cost_laws.specs.BlockCost.{Gone, boundary-apart, boundary-outside, pair-of}
@@ -152,7 +152,7 @@ module _ {n : ℕ} {ss : List ℕ} where
       walk-stands (turn old i j) (λ k u. cond (eqb k j) u (addEdge j k (negℤ (edge old i k)) (addLinear k (edge old i k) u))) (λ u. refl) (λ k ks u. refl)
       (but-stands j (λ k u. addEdge j k (negℤ (edge old i k)) (addLinear k (edge old i k) u)) (λ k u t b d. stands-edge j k (negℤ (edge old i k)) (stands-lin k (edge old i k) t b) a b d)) ks g s h
 
-  pub absorb-stands : (t : ℕ → ℤ) {js : List ℕ} {g : Graph} → Stands n ss g → Pair n js → ((k : ℕ) → mem k js ≡ true → Alive n ss k) → Stands n ss (absorb t js g)
+  pub absorb-stands : (t : ℕ → ℤ) {js : List ℕ} {g : Graph} → Stands n ss g → AtMostTwo n js → ((k : ℕ) → mem k js ≡ true → Alive n ss k) → Stands n ss (absorb t js g)
   unfolding absorb
   absorb-stands t s empty h = stands-base (t 0) s
   absorb-stands t s (single {j} lj) h = stands-lin j (t 1 -ℤ t 0) (stands-base (t 0) s) (h j (in-head j []))
@@ -211,7 +211,7 @@ module _ (g : Graph) (f : Fine g) where
     fix-stands (suc zero) h = spread-stands g i (neighbours g i) (stands-base (lin g i) (dropped 1)) (neighbours-alive 1 i li)
     fix-stands (suc (suc v)) h = absurd (omega arith)
 
-    pub eliminate-stands : Pair (g .n) (neighbours g i) → Stands (g .n) (set (g .states) i 3) (eliminate i g)
+    pub eliminate-stands : AtMostTwo (g .n) (neighbours g i) → Stands (g .n) (set (g .states) i 3) (eliminate i g)
     unfolding eliminate
     eliminate-stands p = absorb-stands (tee g i) (dropped 3) p (neighbours-alive 3 i li)
 

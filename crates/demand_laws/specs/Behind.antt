@@ -29,7 +29,7 @@ use Rattle.run_laws.specs.RunEnds.{ended-few, ended-complete}
 use Rattle.run_laws.specs.InOrderLaws.{run-in-order, in-order-room}
 use Rattle.run_laws.specs.FuelLaws.{graph-turns}
 use Rattle.run_laws.specs.WaitingLaws.{never-inactive}
-use Rattle.demand_laws.specs.Demands.{runOf, SizeRule, Sums, Units, Built, Updates, Reduction-of, Reductions, RunSound}
+use Rattle.demand_laws.specs.Demands.{runOf, SizeRule, SumBounds, Units, Built, Updates, Reduction-of, Reductions, RunSound}
 
 -- ---- of every objective that is not refused
 module _ (o : Objective) (fit : Fit o) where
@@ -56,7 +56,7 @@ module _ (o : Objective) (fit : Fit o) where
   }
 
 -- ---- of every graph within the size rule
-pub sums-are : (g : Graph) → g .n ≤ 64 → Within g → Sums g
+pub sums-are : (g : Graph) → g .n ≤ 64 → Within g → SumBounds g
 sums-are g few w = record {
   deltas = λ i m d. delta-three g w i d m;
   tees = λ i m d. tee-three g w i d m;

@@ -125,8 +125,8 @@ pub record NeverCostlier (o : Objective) (r : Reduction) (linear edges : List �
   pub never : costOfPlan o again ≤ℤ costOfPlan o plan
 
 -- where `reduce` is lent outputs that hold l and e
-abbrev pub reply : Objective → List ℤ → List ℤ → Reduction
-reply o l e = reduction o (length l) (length e)
+abbrev pub reductionFor : Objective → List ℤ → List ℤ → Reduction
+reductionFor o l e = reduction o (length l) (length e)
 
 -- `grow_back` with an output n long
 abbrev pub Grows : Objective → Reduction → List ℤ → List ℤ → Type 0
@@ -143,20 +143,20 @@ Projects o r linear edges =
     NeverCostlier o r linear edges plan (projectRefusal (r .«record») plan (length out)) front (growRefusal (r .«record») answer (length out′)) (planAfter (r .«record») answer out′)
 
 pub record ByCalls (o : Objective) (l e : List ℤ) : Type 0 where
-  pub grown : Grows o (reply o l e) (linearAfter o l e) (edgesAfter o l e)
-  pub projected : Projects o (reply o l e) (linearAfter o l e) (edgesAfter o l e)
+  pub grown : Grows o (reductionFor o l e) (linearAfter o l e) (edgesAfter o l e)
+  pub projected : Projects o (reductionFor o l e) (linearAfter o l e) (edgesAfter o l e)
 
 -- and from the record's block, where `write_record` is lent an output that holds b
 pub record ByBlock (o : Objective) (l e : List ℤ) (b : List ℕ) : Type 0 where
   -- a reduction's record is never refused
-  pub written : writeRefusal (reply o l e .«record») (length b) ≡ 0
+  pub written : writeRefusal (reductionFor o l e .«record») (length b) ≡ 0
   -- what is read is what was written
-  pub read : reading (blockAfter (reply o l e .«record») b) ≡ record { answer = 0; «record» = reply o l e .«record» }
+  pub read : reading (blockAfter (reductionFor o l e .«record») b) ≡ record { answer = 0; «record» = reductionFor o l e .«record» }
   -- each call has the record's own number, and leaves what it leaves
-  pub grown-number : (answer : List ℕ) (out : ℕ) → growBlockRefusal (blockAfter (reply o l e .«record») b) answer out ≡ growRefusal (reply o l e .«record») answer out
-  pub grown : (answer out : List ℕ) → blockPlanAfter (blockAfter (reply o l e .«record») b) answer out ≡ planAfter (reply o l e .«record») answer out
-  pub projected-number : (plan : List ℕ) (out : ℕ) → projectBlockRefusal (blockAfter (reply o l e .«record») b) plan out ≡ projectRefusal (reply o l e .«record») plan out
-  pub projected : (plan out : List ℕ) → blockAnswerAfter (blockAfter (reply o l e .«record») b) plan out ≡ answerAfter (reply o l e .«record») plan out
+  pub grown-number : (answer : List ℕ) (out : ℕ) → growBlockRefusal (blockAfter (reductionFor o l e .«record») b) answer out ≡ growRefusal (reductionFor o l e .«record») answer out
+  pub grown : (answer out : List ℕ) → blockPlanAfter (blockAfter (reductionFor o l e .«record») b) answer out ≡ planAfter (reductionFor o l e .«record») answer out
+  pub projected-number : (plan : List ℕ) (out : ℕ) → projectBlockRefusal (blockAfter (reductionFor o l e .«record») b) plan out ≡ projectRefusal (reductionFor o l e .«record») plan out
+  pub projected : (plan out : List ℕ) → blockAnswerAfter (blockAfter (reductionFor o l e .«record») b) plan out ≡ answerAfter (reductionFor o l e .«record») plan out
 
 -- ---- the size rule, and the units
 -- the run at a budget of b
@@ -168,7 +168,7 @@ abbrev pub SizeRule : Objective → Type 0
 SizeRule o = (b : ℕ) → Within (runOf o b .graph)
 
 -- and each sum that a reduction makes on the way, in a graph of at most 64 decisions within it. 2^40 is 1,099,511,627,776
-pub record Sums (g : Graph) : Type 0 where
+pub record SumBounds (g : Graph) : Type 0 where
   -- 7·2^40 for a delta and for "T the smaller of delta and 0"
   pub deltas : (i m : ℕ) → degree g i ≤ 3 → ∣ delta g i m ∣ ≤ 7696581394432
   pub tees : (i m : ℕ) → degree g i ≤ 3 → ∣ tee g i m ∣ ≤ 7696581394432

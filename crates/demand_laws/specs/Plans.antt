@@ -20,7 +20,7 @@ use Rattle.rules.specs.Eliminate.{Step}
 use Rattle.rules.specs.Back.{place, maskOf, play, playAll, remainingOf, project}
 use Rattle.cost_laws.specs.EliminateLaws.{maskAt}
 use Rattle.cost_laws.specs.BlockCost.{mask-ext}
-use Rattle.cost_laws.specs.BlockSteps.{played}
+use Rattle.cost_laws.specs.BlockSteps.{playedBack}
 use Rattle.sound_laws.specs.Sound.{decisions}
 use Rattle.demand_laws.specs.Demands.{isOne}
 
@@ -178,13 +178,13 @@ play-all-bits [] x h = h
 play-all-bits (s ∷ ss) x h = play-bits (playAll ss x) (play-all-bits ss x h) s
 
 -- "then the steps last to first", as the relation of a reduction plays them
-pub play-all-is : (steps : List Step) (x : List ℕ) → Bits x → ((d : ℕ) → mem d (decisions steps) ≡ true → d < length x) → (k : ℕ) → isOne (playAll steps x) k ≡ played steps (isOne x) k
-unfolding playAll played
+pub play-all-is : (steps : List Step) (x : List ℕ) → Bits x → ((d : ℕ) → mem d (decisions steps) ≡ true → d < length x) → (k : ℕ) → isOne (playAll steps x) k ≡ playedBack steps (isOne x) k
+unfolding playAll playedBack
 play-all-is [] x h l k = refl
 play-all-is (s ∷ ss) x h l k =
-    let rest : (j : ℕ) → isOne (playAll ss x) j ≡ played ss (isOne x) j = play-all-is ss x h (λ d m. l d (in-tail d (s .decision) (decisions ss) m)) in
+    let rest : (j : ℕ) → isOne (playAll ss x) j ≡ playedBack ss (isOne x) j = play-all-is ss x h (λ d m. l d (in-tail d (s .decision) (decisions ss) m)) in
     play-is (playAll ss x) (play-all-bits ss x h) s (rw (play-length ss x) (l (s .decision) (in-head (s .decision) (decisions ss)))) k
-    ∙ ap₂ (λ (m : ℕ) (v : Bool). cond (eqb k (s .decision)) (bit (s .choices) m) v) (mask-ext (isOne (playAll ss x)) (played ss (isOne x)) (s .near) (λ j t. rest j)) (rest k)
+    ∙ ap₂ (λ (m : ℕ) (v : Bool). cond (eqb k (s .decision)) (bit (s .choices) m) v) (mask-ext (isOne (playAll ss x)) (playedBack ss (isOne x)) (s .near) (λ j t. rest j)) (rest k)
 
 -- ---- projecting
 pub project-front : (ss plan : List ℕ) → take (length (remainingOf ss)) (project ss plan) ≡ map (λ i. getD plan i 0) (remainingOf ss)

@@ -39,8 +39,8 @@ endGraph o = ended o .state .graph
 abbrev pub endSteps : Objective → List Step
 endSteps o = ended o .state .steps
 
-abbrev pub shown : Objective → List ℕ
-shown o = take (o .n) (endGraph o .states)
+abbrev pub statesShown : Objective → List ℕ
+statesShown o = take (o .n) (endGraph o .states)
 
 -- ---- of an objective that is not refused
 module _ (o : Objective) (fit : Fit o) where
@@ -57,23 +57,23 @@ module _ (o : Objective) (fit : Fit o) where
   pub start-state : (i : ℕ) → i < o .n → getD (statesFrom (o .n) (o .fixings)) i 0 ≡ getD (o .fixings) i 0
   start-state i l = List·getD-append (o .fixings) (replicate (64 - o .n) 0) 0 i (omega (arith, fit .fixings))
 
-  pub shown-long : length (shown o) ≡ o .n
+  pub shown-long : length (statesShown o) ≡ o .n
   shown-long = length-take-le (o .n) (endGraph o .states) (omega (arith, end-fine .shaped .states-long, fit .small))
 
-  pub shown-at : (i : ℕ) → i < o .n → getD (shown o) i 0 ≡ getD (endGraph o .states) i 0
+  pub shown-at : (i : ℕ) → i < o .n → getD (statesShown o) i 0 ≡ getD (endGraph o .states) i 0
   shown-at i l = getD-take (o .n) (endGraph o .states) i 0 l
 
   -- "0 or 1 fixed"
   pub shown-fixed : (i : ℕ) → i < o .n → getD (o .fixings) i 0 < 2
-      → (mem i (decisions (endSteps o)) ≡ false) × (getD (shown o) i 0 ≡ getD (o .fixings) i 0)
+      → (mem i (decisions (endSteps o)) ≡ false) × (getD (statesShown o) i 0 ≡ getD (o .fixings) i 0)
   shown-fixed i l h =
       let out = fixed-stays (o .n) (statesFrom (o .n) (o .fixings)) (endSteps o) end-taken i (rw (start-state i l) h) in
       (out, shown-at i l ∙ ap (λ (ss : List ℕ). getD ss i 0) end-states ∙ marked-other (decisions (endSteps o)) (statesFrom (o .n) (o .fixings)) i out ∙ start-state i l)
 
   -- "2 remaining"
-  pub shown-remaining : remainingOf (shown o) ≡ actives (endGraph o)
+  pub shown-remaining : remainingOf (statesShown o) ≡ actives (endGraph o)
   unfolding remainingOf actives
   shown-remaining =
-      ap (λ (n : ℕ). those (λ i. eqb (getD (shown o) i 0) 2) (upto n)) shown-long
-      ∙ those-ext (λ i. eqb (getD (shown o) i 0) 2) (λ i. active (endGraph o) i) (upto (o .n)) (λ k m. ap (λ (z : ℕ). eqb z 2) (shown-at k (upto-in k (o .n) m)))
+      ap (λ (n : ℕ). those (λ i. eqb (getD (statesShown o) i 0) 2) (upto n)) shown-long
+      ∙ those-ext (λ i. eqb (getD (statesShown o) i 0) 2) (λ i. active (endGraph o) i) (upto (o .n)) (λ k m. ap (λ (z : ℕ). eqb z 2) (shown-at k (upto-in k (o .n) m)))
       ∙ ap (λ (n : ℕ). those (λ i. active (endGraph o) i) (upto n)) (sym (ended-n o fit))

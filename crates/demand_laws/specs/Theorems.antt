@@ -19,7 +19,7 @@ use Rattle.rules.specs.Back.{place, growBack, project}
 use Rattle.rules.specs.Refuse.{reduceRefusal}
 use Rattle.accepted_laws.specs.Accept.{Fit, accept}
 use Rattle.cost_laws.specs.CostLaws.{cost}
-use Rattle.cost_laws.specs.BlockSteps.{played}
+use Rattle.cost_laws.specs.BlockSteps.{playedBack}
 use Rattle.objective_laws.specs.ObjectiveCost.{Keeps}
 use Rattle.cost_laws.specs.BlockCost.{cost-ext}
 use Rattle.objective_laws.specs.Theorems.{start-cost-kept}
@@ -33,7 +33,7 @@ use lib.Seq.{ext-getD}
 use Rattle.demand_laws.specs.Demands.{isOne, FullPlan, costOfPlan, Answer, reducedCost, costOfAnswer, grownBack, projection, FirstHalf, SecondHalf, AnswerKept}
 use Rattle.demand_laws.specs.Plans.{place-length, place-bits, place-fixed, place-remaining, play-length, play-other, play-all-bits, play-all-is, project-front}
 use Rattle.demand_laws.specs.Outputs.{outputs-cost}
-use Rattle.demand_laws.specs.RunEnds.{endGraph, endSteps, shown, end-fine, end-taken, shown-long, shown-fixed, shown-remaining}
+use Rattle.demand_laws.specs.RunEnds.{endGraph, endSteps, statesShown, end-fine, end-taken, shown-long, shown-fixed, shown-remaining}
 
 -- ---- what is read in a list does not hang on what stands past its end
 in-range : (xs : List ℕ) (k d e : ℕ) → k < length xs → getD xs k d ≡ getD xs k e
@@ -66,37 +66,37 @@ module _ (o : Objective) (fit : Fit o) where
 
   module _ (answer : List ℕ) (a : Answer o answer) where
     base : List ℕ
-    base = place (shown o) answer
+    base = place (statesShown o) answer
 
     grown-plan : FullPlan o (grownBack o answer)
     unfolding outcome outcomeOf growBack
     grown-plan = record {
       values = record {
-        long = play-length (endSteps o) _ ∙ place-length (shown o) answer ∙ shown-long o fit;
-        bits = play-all-bits (endSteps o) _ (place-bits (shown o) answer (a .bits));
+        long = play-length (endSteps o) _ ∙ place-length (statesShown o) answer ∙ shown-long o fit;
+        bits = play-all-bits (endSteps o) _ (place-bits (statesShown o) answer (a .bits));
       };
       keeps = λ i l h.
           let p = shown-fixed o fit i l h in
-          play-other (endSteps o) _ i (p .0) ∙ place-fixed (shown o) answer i (rw (shown-long o fit) l) (rw (p .1) h) ∙ p .1;
+          play-other (endSteps o) _ i (p .0) ∙ place-fixed (statesShown o) answer i (rw (shown-long o fit) l) (rw (p .1) h) ∙ p .1;
     }
 
     at-remaining : (k : ℕ) → k < length (actives (endGraph o)) → getD base (getD (actives (endGraph o)) k 0) 0 ≡ getD answer k 0
     unfolding base
     at-remaining k l =
         ap (λ (r : List ℕ). getD base (getD r k 0) 0) (sym (shown-remaining o fit))
-        ∙ place-remaining (shown o) answer k (rw (shown-remaining o fit) l)
+        ∙ place-remaining (statesShown o) answer k (rw (shown-remaining o fit) l)
 
     -- (E), in the caller's words
     grown-cost : costOfPlan o (grownBack o answer) ≡ costOfAnswer o answer
     unfolding outcome outcomeOf growBack base
     grown-cost =
         plan-cost (grownBack o answer) grown-plan
-        ∙ cost-ext (start o) (isOne (grownBack o answer)) (played (endSteps o) (isOne base))
-        (play-all-is (endSteps o) base (place-bits (shown o) answer (a .bits)) below)
+        ∙ cost-ext (start o) (isOne (grownBack o answer)) (playedBack (endSteps o) (isOne base))
+        (play-all-is (endSteps o) base (place-bits (statesShown o) answer (a .bits)) below)
         ∙ ended-sound o fit .exact (isOne base) ∙ end-cost (isOne base) answer a at-places
       where
         below : (d : ℕ) → mem d (decisions (endSteps o)) ≡ true → d < length base
-        below d m = rw (place-length (shown o) answer, shown-long o fit) (steps-alive (o .n) _ (endSteps o) (end-taken o fit) d m .0)
+        below d m = rw (place-length (statesShown o) answer, shown-long o fit) (steps-alive (o .n) _ (endSteps o) (end-taken o fit) d m .0)
 
         at-places : (k : ℕ) → k < length (actives (endGraph o)) → isOne base (getD (actives (endGraph o)) k 0) ≡ isOne answer k
         at-places k l = ap (λ (z : ℕ). eqb z 1) (at-remaining k l)
@@ -104,8 +104,8 @@ module _ (o : Objective) (fit : Fit o) where
   module _ (plan : List ℕ) (p : FullPlan o plan) where
     front : projection o plan ≡ map (λ i. getD plan i 0) (actives (endGraph o))
     unfolding outcome outcomeOf
-    front = subst (λ (r : List ℕ). take (length r) (project (shown o) plan) ≡ map (λ i. getD plan i 0) r) (shown-remaining o fit)
-        (project-front (shown o) plan)
+    front = subst (λ (r : List ℕ). take (length r) (project (statesShown o) plan) ≡ map (λ i. getD plan i 0) r) (shown-remaining o fit)
+        (project-front (statesShown o) plan)
 
     projected-answer : Answer o (projection o plan)
     unfolding outcome outcomeOf

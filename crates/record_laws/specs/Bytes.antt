@@ -35,9 +35,9 @@ unfolding little
 little-length zero v = refl
 little-length (suc n) v = ap suc (little-length n (v / 256))
 
-pub positive : (n : ℕ) → 0 < 256 ^ n
-positive zero = omega arith
-positive (suc n) = rw (pow-suc 256 n) (omega (arith, positive n))
+pub power-positive : (n : ℕ) → 0 < 256 ^ n
+power-positive zero = omega arith
+power-positive (suc n) = rw (pow-suc 256 n) (omega (arith, power-positive n))
 
 pub from-little : (n v : ℕ) → v < 256 ^ n → fromLittle (little n v) ≡ v
 unfolding little fromLittle

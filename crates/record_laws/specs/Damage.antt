@@ -17,7 +17,7 @@ use Rattle.whole.specs.Members.{all-in, in-from}
 use Rattle.rules.specs.Record.{fromLittle, check, checkRight, sealed}
 use Rattle.record_laws.specs.Bytes.{Bytes, bytes-front, bytes-set}
 use Rattle.record_laws.specs.RoundTrip.{right-sealed}
-use Rattle.record_laws.specs.Sums.{total, weighted, check-first, check-second, total-set, weighted-set}
+use Rattle.record_laws.specs.Sums.{byteTotal, weighted, check-first, check-second, total-set, weighted-set}
 
 -- ---- a byte's change, k places before the end, is no multiple of 2^16
 all-at : (p : ℕ → Bool) (c a i : ℕ) → all p (from a c) ≡ true → a ≤ i → i < a + c → p i ≡ true
@@ -63,7 +63,7 @@ cross a k x y p q u w v e f s = let g : a * (x + y) ≡ a * (p + q) = ap (λ (z 
 module _ (m : List ℕ) (l : length m ≡ 508) (h : Bytes m) where
   one-first : (i x : ℕ) → i < 508 → x < 256 → check (set m i x) .s1 ≡ check m .s1 → x ≡ getD m i 0
   one-first i x hi hx e =
-      let f : (1 + total (set m i x)) % 65536 ≡ (1 + total m) % 65536 = sym (check-first (set m i x)) ∙ e ∙ check-first m in
+      let f : (1 + byteTotal (set m i x)) % 65536 ≡ (1 + byteTotal m) % 65536 = sym (check-first (set m i x)) ∙ e ∙ check-first m in
       omega (arith, total-set m i x (omega arith), h i)
 
   one-second : (i x : ℕ) → i < 508 → x < 256 → check (set m i x) .s2 ≡ check m .s2 → x ≡ getD m i 0
@@ -80,8 +80,8 @@ module _ (m : List ℕ) (l : length m ≡ 508) (h : Bytes m) where
       let o : length (set (set m i x) j y) ≡ 508 = length-set (set m i x) j y ∙ n in
       let g : getD (set m i x) j 0 ≡ getD m j 0 = getD-set-other m i j x 0 (λ q. omega arith) in
       let t = total-set m i x (omega arith) in
-      let u : total (set (set m i x) j y) + getD m j 0 ≡ total (set m i x) + y = rw g at (total-set (set m i x) j y (omega arith)) in
-      let a : (1 + total (set (set m i x) j y)) % 65536 ≡ (1 + total m) % 65536 = sym (check-first (set (set m i x) j y)) ∙ e ∙ check-first m in
+      let u : byteTotal (set (set m i x) j y) + getD m j 0 ≡ byteTotal (set m i x) + y = rw g at (total-set (set m i x) j y (omega arith)) in
+      let a : (1 + byteTotal (set (set m i x) j y)) % 65536 ≡ (1 + byteTotal m) % 65536 = sym (check-first (set (set m i x) j y)) ∙ e ∙ check-first m in
       let s : x + y ≡ getD m i 0 + getD m j 0 = omega (arith, h i, h j) in
       let w = rw l at (weighted-set m i x (omega arith)) in
       let v = rw (g, n) at (weighted-set (set m i x) j y (omega arith)) in

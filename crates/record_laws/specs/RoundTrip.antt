@@ -65,16 +65,16 @@ module _ (r : Record) (h : Held r) where
 
 -- ---- a block that is read is written again
 -- what the table says of a block that is not refused
-pub record Accepted (b : List ℕ) : Type 0 where
+pub record Readable (b : List ℕ) : Type 0 where
   pub long : length b ≡ 512
   pub right : checkRight b ≡ true
   pub edition : getD b 0 0 ≡ 3
   pub zeros : zerosIn b ≡ true
   pub unbroken : sound (recordIn b) ≡ true
 
-pub accept : (b : List ℕ) → readRefusal b ≡ 0 → Accepted b
+pub is-readable : (b : List ℕ) → readRefusal b ≡ 0 → Readable b
 unfolding readRefusal firstRow
-accept b e =
+is-readable b e =
     let a = row-off 9 (not (eqb (length b) 512)) _ (λ z. omega arith) e in
     let c = row-off 10 (not (checkRight b)) _ (λ z. omega arith) (a .1) in
     let d = row-off 11 (not (eqb (getD b 0 0) edition)) _ (λ z. omega arith) (c .1) in
@@ -123,24 +123,24 @@ module _ (b : List ℕ) (h : Bytes b) where
     glue : (u v w x : List ℕ) → u ≡ take 4 b → v ≡ take 8 (drop 4 b) → w ≡ take 384 (drop 76 b) → x ≡ take 48 (drop 460 b) → u ++ v ++ take 64 (drop 12 b) ++ w ++ x ≡ take 508 b
     glue u v w x eu ev ew ex = rw (eu, ev, ew, ex, front 4 8 12 refl, front 12 64 76 refl, front 76 384 460 refl) (front 460 48 508 refl)
 
-    head-again : Accepted b → edition ∷ getD b 1 0 ∷ getD b 2 0 ∷ 0 ∷ [] ≡ take 4 b
+    head-again : Readable b → edition ∷ getD b 1 0 ∷ getD b 2 0 ∷ 0 ∷ [] ≡ take 4 b
     unfolding zerosIn all from
     head-again a =
         let z = eqb-true (getD b 3 0) 0 (and-true (eqb (getD b 3 0) 0) _ (a .zeros) .0) in
         let s : take 4 b ≡ getD b 0 0 ∷ getD b 1 0 ∷ getD b 2 0 ∷ getD b 3 0 ∷ [] = stretch 4 0 0 b (omega arith) in
         sym (rw (a .edition, z) at s)
 
-    zeros-again : Accepted b → replicate 48 0 ≡ take 48 (drop 460 b)
+    zeros-again : Readable b → replicate 48 0 ≡ take 48 (drop 460 b)
     unfolding zerosIn all
     zeros-again a = sym (zeros-stand 48 460 b (omega arith) (and-true (eqb (getD b 3 0) 0) _ (a .zeros) .1))
 
-    body-again : Accepted b → body (recordIn b) ≡ take 508 b
+    body-again : Readable b → body (recordIn b) ≡ take 508 b
     unfolding body recordIn
     body-again a = glue _ _ _ _ (head-again a) constant-again (steps-written 64 0 76 b (omega arith)) (zeros-again a)
 
     pub written-read : readRefusal b ≡ 0 → blockOf (recordIn b) ≡ b
     unfolding blockOf
-    written-read e = let a = accept b e in ap sealed (body-again a) ∙ right-sealed (a .right)
+    written-read e = let a = is-readable b e in ap sealed (body-again a) ∙ right-sealed (a .right)
 
 -- ---- the reader accepts exactly what is the block of some unbroken record
 pub record Written (b : List ℕ) : Type 0 where
@@ -159,7 +159,7 @@ held-in b l = record {
 pub accepts-written : (b : List ℕ) → Bytes b → (readRefusal b ≡ 0) ↔ Written b
 accepts-written b h = (
   (λ e.
-      let a = accept b e in
+      let a = is-readable b e in
       record { source = recordIn b; held = held-in b (a .long); unbroken = ap not (a .unbroken); block = written-read b h (a .long) e }),
   (λ w. sym (ap readRefusal (w .block)) ∙ reads (w .source) (w .held) (w .unbroken)),
 )

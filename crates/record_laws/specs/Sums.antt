@@ -27,17 +27,17 @@ unfolding check
 check-below xs = sums-below (both 1 0) xs (omega arith) (omega arith)
 
 -- ---- the closed form
-unfoldable pub total : List ℕ → ℕ
-total [] = 0
-total (b ∷ bs) = b + total bs
+unfoldable pub byteTotal : List ℕ → ℕ
+byteTotal [] = 0
+byteTotal (b ∷ bs) = b + byteTotal bs
 
 -- each byte as often as bytes stand from it on
 unfoldable pub weighted : List ℕ → ℕ
 weighted [] = 0
 weighted (b ∷ bs) = suc (length bs) * b + weighted bs
 
-pub sums-first : (bs : List ℕ) (s t : ℕ) → s < 65536 → sums (both s t) bs .s1 ≡ (s + total bs) % 65536
-unfolding sums total
+pub sums-first : (bs : List ℕ) (s t : ℕ) → s < 65536 → sums (both s t) bs .s1 ≡ (s + byteTotal bs) % 65536
+unfolding sums byteTotal
 sums-first [] s t h = omega arith
 sums-first (b ∷ bs) s t h = sums-first bs ((s + b) % 65536) _ (omega arith) ∙ omega arith
 
@@ -59,7 +59,7 @@ sums-second (b ∷ bs) s t h k =
     sums-second bs ((s + b) % 65536) ((t + (s + b) % 65536) % 65536) (omega arith) (omega arith)
     ∙ onward (length bs) s b t (weighted bs) ((s + b) / 65536) ((s + b) % 65536) (omega arith)
 
-pub check-first : (bs : List ℕ) → check bs .s1 ≡ (1 + total bs) % 65536
+pub check-first : (bs : List ℕ) → check bs .s1 ≡ (1 + byteTotal bs) % 65536
 unfolding check
 check-first bs = sums-first bs 1 0 (omega arith)
 
@@ -68,8 +68,8 @@ unfolding check
 check-second bs = sums-second bs 1 0 (omega arith) (omega arith) ∙ omega arith
 
 -- ---- one byte changed
-pub total-set : (bs : List ℕ) (i x : ℕ) → i < length bs → total (set bs i x) + getD bs i 0 ≡ total bs + x
-unfolding total
+pub total-set : (bs : List ℕ) (i x : ℕ) → i < length bs → byteTotal (set bs i x) + getD bs i 0 ≡ byteTotal bs + x
+unfolding byteTotal
 total-set [] i x h = absurd (omega arith)
 total-set (b ∷ bs) zero x h = omega arith
 total-set (b ∷ bs) (suc i) x h = omega (arith, total-set bs i x (omega arith))
@@ -84,7 +84,7 @@ weighted-set (b ∷ bs) (suc i) x h =
 
 -- ---- three bytes can cancel out: the check does not see 0 2 0 become 1 0 1, wherever it stands
 three-same : (s t : ℕ) → s < 65536 → t < 65536 → sums (both s t) (0 ∷ 2 ∷ 0 ∷ []) ≡ sums (both s t) (1 ∷ 0 ∷ 1 ∷ [])
-unfolding total weighted
+unfolding byteTotal weighted
 three-same s t h k =
     let e = sums-first (0 ∷ 2 ∷ 0 ∷ []) s t h ∙ sym (sums-first (1 ∷ 0 ∷ 1 ∷ []) s t h) in
     let f = sums-second (0 ∷ 2 ∷ 0 ∷ []) s t h k ∙ sym (sums-second (1 ∷ 0 ∷ 1 ∷ []) s t h k) in

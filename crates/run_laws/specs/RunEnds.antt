@@ -25,8 +25,8 @@ use Rattle.run_laws.specs.InOrderLaws.{begin-in-order, next-in-order, in
 use Rattle.cost_laws.specs.RunLaws.{next-unit, run-keeps}
 
 -- what is left to do: each waiting decision is a take, and each decision that may still leave may fill the queue once more
-abbrev pub left : ℕ → State → ℕ
-left n s = length (s .queue) + 65 * (n - length (s .steps))
+abbrev pub workLeft : ℕ → State → ℕ
+workLeft n s = length (s .queue) + 65 * (n - length (s .steps))
 
 -- a take lets one wait less, or takes a step
 data Taking (q : List ℕ) (s t : State) : Type 0 where
@@ -44,15 +44,15 @@ taking idle opt i q s = passes refl refl
 
 module _ (g : Graph) where
   -- everything due leaves less to do
-  next-less : (opt : Options) (s t : State) → next opt s ≡ due t → InOrder g s → left (g .n) t < left (g .n) s
+  next-less : (opt : Options) (s t : State) → next opt s ≡ due t → InOrder g s → workLeft (g .n) t < workLeft (g .n) s
   unfolding blocked
   next-less opt s t e o = less t (next-due opt s t e) (next-in-order g opt s t e o)
     where
-      taken : (i : ℕ) (q : List ℕ) (t : State) → s .queue ≡ i ∷ q → InOrder g t → Taking q s t → left (g .n) t < left (g .n) s
+      taken : (i : ℕ) (q : List ℕ) (t : State) → s .queue ≡ i ∷ q → InOrder g t → Taking q s t → workLeft (g .n) t < workLeft (g .n) s
       taken i q t h p (passes a b) = omega (arith, ap length h, ap length a, ap length b)
       taken i q t h p (reduces d) = omega (arith, ap length h, in-order-steps g p, in-order-room g p .queue)
 
-      less : (t : State) → Due opt s t → InOrder g t → left (g .n) t < left (g .n) s
+      less : (t : State) → Due opt s t → InOrder g t → workLeft (g .n) t < workLeft (g .n) s
       less t (take {i} {q} h) p = taken i q t h p (taking (way opt (s .graph) i) opt i q s)
       less t (block {b} h on f) p =
           omega (
@@ -65,7 +65,7 @@ module _ (g : Graph) where
           )
 
   -- with a unit for each thing left to do, the run is complete
-  pub enough-completes : (b : ℕ) (opt : Options) (s : State) → InOrder g s → left (g .n) s ≤ b → run b opt s .complete ≡ true
+  pub enough-completes : (b : ℕ) (opt : Options) (s : State) → InOrder g s → workLeft (g .n) s ≤ b → run b opt s .complete ≡ true
   unfolding run
   enough-completes zero opt s o h = end (next opt s) refl
     where
@@ -74,11 +74,11 @@ module _ (g : Graph) where
       end (due t) e = absurd (omega (arith, next-less opt s t e o))
   enough-completes (suc b) opt s o h = more (next opt s) refl (enough-completes b opt)
     where
-      more : (x : Next) → next opt s ≡ x → ((t : State) → InOrder g t → left (g .n) t ≤ b → run b opt t .complete ≡ true) → onward x s (λ t. run b opt t) .complete ≡ true
+      more : (x : Next) → next opt s ≡ x → ((t : State) → InOrder g t → workLeft (g .n) t ≤ b → run b opt t .complete ≡ true) → onward x s (λ t. run b opt t) .complete ≡ true
       more over e r = refl
       more (due t) e r = r t (next-in-order g opt s t e o) (omega (arith, next-less opt s t e o))
 
-  begin-left : (opt : Options) → Fine g → left (g .n) (begin opt g) ≤ 4224
+  begin-left : (opt : Options) → Fine g → workLeft (g .n) (begin opt g) ≤ 4224
   unfolding begin
   begin-left opt f = omega (arith, in-order-room g (begin-in-order g opt f) .queue, f .shaped .few)
 
@@ -87,8 +87,8 @@ module _ (g : Graph) where
   unfolding begin
   run-units b opt f = omega (arith, kept .1)
     where
-      kept : InOrder g (run b opt (begin opt g) .state) × (units (run b opt (begin opt g) .state) + left (g .n) (run b opt (begin opt g) .state) ≤ 4224)
-      kept = run-keeps opt (λ s. InOrder g s × (units s + left (g .n) s ≤ 4224))
+      kept : InOrder g (run b opt (begin opt g) .state) × (units (run b opt (begin opt g) .state) + workLeft (g .n) (run b opt (begin opt g) .state) ≤ 4224)
+      kept = run-keeps opt (λ s. InOrder g s × (units s + workLeft (g .n) s ≤ 4224))
           (λ s t e p. (next-in-order g opt s t e (p .0), omega (arith, p .1, next-unit opt s t e, next-less opt s t e (p .0))))
           b (begin opt g) (begin-in-order g opt f, omega (arith, begin-left opt f))
 

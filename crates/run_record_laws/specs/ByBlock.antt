@@ -22,7 +22,7 @@ use Rattle.sound_laws.specs.SoundStart.{statesFrom}
 use Rattle.run_laws.specs.StepLaws.{steps-few}
 use Rattle.record_laws.specs.Fields.{Held}
 use Rattle.record_laws.specs.RoundTrip as trip
-use Rattle.demand_laws.specs.Demands.{reply, ByBlock}
+use Rattle.demand_laws.specs.Demands.{reductionFor, ByBlock}
 use Rattle.demand_laws.specs.RunEnds.{endSteps, end-fine, end-taken}
 use Rattle.run_record_laws.specs.ByCalls.{run-record-sound, reply-is}
 
@@ -89,10 +89,10 @@ run-record-held o fit = record {
 pub by-block : (o : Objective) (l e : List ℤ) (b : List ℕ) → reduceRefusal o (length l) (length e) ≡ 0 → length b ≡ 512 → ByBlock o l e b
 by-block o l e b accepted long =
     let fit = accept o (length l) (length e) accepted .fit in
-    let is : reply o l e .«record» ≡ recordOf (o .n) (outcome o .constant) (outcome o .states) (outcome o .steps) = ap (λ (r : Reduction). r .«record») (reply-is o l e accepted) in
-    let h : Held (reply o l e .«record») = subst Held (sym is) (run-record-held o fit) in
-    let s : sound (reply o l e .«record») ≡ true = ap sound is ∙ run-record-sound o fit in
-    let r : Record = reply o l e .«record» in
+    let is : reductionFor o l e .«record» ≡ recordOf (o .n) (outcome o .constant) (outcome o .states) (outcome o .steps) = ap (λ (r : Reduction). r .«record») (reply-is o l e accepted) in
+    let h : Held (reductionFor o l e .«record») = subst Held (sym is) (run-record-held o fit) in
+    let s : sound (reductionFor o l e .«record») ≡ true = ap sound is ∙ run-record-sound o fit in
+    let r : Record = reductionFor o l e .«record» in
     let is-block = block-is r h s b long in
     record {
       written = written-fine r h s b long;

@@ -25,7 +25,7 @@ use Rattle.rules.specs.declared.Record.{Record}
 use Rattle.accepted_laws.specs.Accept.{Fit, Accepted, accept}
 use Rattle.sound_laws.specs.SoundStart.{statesFrom}
 use Rattle.size_laws.specs.RunWithin.{ended-within}
-use Rattle.demand_laws.specs.Demands.{Values, FullPlan, Answer, costOfPlan, grownBack, projection, reply, Grows, Projects, ByCalls}
+use Rattle.demand_laws.specs.Demands.{Values, FullPlan, Answer, costOfPlan, grownBack, projection, reductionFor, Grows, Projects, ByCalls}
 use Rattle.demand_laws.specs.RunEnds.{endGraph, endSteps, end-states, end-taken, start-state, shown-remaining}
 use Rattle.demand_laws.specs.Theorems.{first-half, second-half}
 use Rattle.record_laws.specs.Steps.{steps-of-record}
@@ -94,7 +94,7 @@ module _ (o : Objective) (l e : List ℤ) (accepted : reduceRefusal o (length l)
   accepted-lengths : reduceRefusal o 64 4096 ≡ 0
   accepted-lengths = ap₂ (reduceRefusal o) (sym (whole .outLinear)) (sym (whole .outEdges)) ∙ accepted
 
-  pub reply-is : reply o l e ≡ reported (o .n) (outcome o)
+  pub reply-is : reductionFor o l e ≡ reported (o .n) (outcome o)
   unfolding reduction
   reply-is = ap (λ (k : ℕ). unless k (reported (o .n) (outcome o)) (refused k)) accepted
 

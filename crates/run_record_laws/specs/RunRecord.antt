@@ -21,7 +21,7 @@ use Rattle.rules.specs.Record.{noStep, hold, holdAll, recordOf, nearOf, isNone,
 use Rattle.rules.specs.declared.Step.{Step}
 use Rattle.rules.specs.declared.Record.{Record}
 use Rattle.cost_laws.specs.Stands.{marked, marked-other}
-use Rattle.sound_laws.specs.Sound.{Taken, Steps, decisions, decisions-append, marked-append}
+use Rattle.sound_laws.specs.Sound.{StepTaken, Steps, decisions, decisions-append, marked-append}
 use Rattle.run_laws.specs.StepLaws.{steps-alive, steps-few}
 use Rattle.run_laws.specs.RemainingLaws.{marked-alive}
 use Rattle.record_laws.specs.Steps.{Few, played-hold}
@@ -52,7 +52,7 @@ marked-at (j ∷ b) ss i l m = cases (mem i b)
 
 -- step k is taken where the decisions of the first k have left
 taken-at : (n : ℕ) (ss : List ℕ) (steps : List rule.Step) → Steps n ss steps → (k : ℕ) → k < length steps
-    → Taken n (marked (decisions (take k steps)) ss) (getD steps k (rule.step 0 [] 0))
+    → StepTaken n (marked (decisions (take k steps)) ss) (getD steps k (rule.step 0 [] 0))
 unfolding marked
 taken-at n ss [] t k l = absurd (not-suc-le-zero l)
 taken-at n ss (s ∷ steps) t zero l = t .0
@@ -107,7 +107,7 @@ module _ (n : ℕ) (c : ℤ) (ss : List ℕ) (steps : List rule.Step) (few : n �
     before : List ℕ
     before = decisions (take k steps)
 
-    at : Taken n (marked (decisions (take k steps)) ss) (getD steps k (rule.step 0 [] 0))
+    at : StepTaken n (marked (decisions (take k steps)) ss) (getD steps k (rule.step 0 [] 0))
     at = taken-at n ss steps t k l
 
     below : getD steps k (rule.step 0 [] 0) .decision < n

@@ -13,7 +13,7 @@ use Rattle.rules.specs.Fixing.{start}
 use Rattle.rules.specs.Size.{Within}
 use Rattle.rules.specs.Eliminate.{Step}
 use Rattle.rules.specs.Run.{run, begin, ended}
-use Rattle.cost_laws.specs.BlockSteps.{played}
+use Rattle.cost_laws.specs.BlockSteps.{playedBack}
 use Rattle.cost_laws.specs.Stands.{Fine}
 use Rattle.accepted_laws.specs.Accept.{Fit}
 use Rattle.sound_laws.specs.Sound.{Sound}
@@ -24,7 +24,7 @@ use Rattle.size_laws.specs.ValueLaws.{start-narrow, taken-narrow, narrow
 
 -- "the reduced cost only takes values the original takes"
 sound-taken : {g g′ : Graph} {steps : List Step} → Sound g steps g′ → TakenFrom g g′
-sound-taken {steps = steps} s = record { plan = played steps; same = λ x. sym (s .exact x) }
+sound-taken {steps = steps} s = record { plan = playedBack steps; same = λ x. sym (s .exact x) }
 
 fine-within : (g : Graph) → Fine g → Narrow g → Within g
 fine-within g f w = narrow-within g (f .shaped) w (f .neat) (λ i h. f .light i (refuse (active g i) (λ a. beyond i h (f .inside i a))))

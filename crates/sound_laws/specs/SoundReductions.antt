@@ -19,31 +19,31 @@ use Rattle.rules.specs.DominantEdge.{positive, dominates, contract, contractSte
 use Rattle.rules.specs.SmallBlock.{boundary, bestMask, blockSteps, eliminateBlock, findBlock, members}
 use Rattle.rules.specs.Record.{ascending}
 use Rattle.cost_laws.specs.CostLaws.{cost}
-use Rattle.cost_laws.specs.EliminateLaws.{maskAt, Pair}
+use Rattle.cost_laws.specs.EliminateLaws.{maskAt, AtMostTwo}
 use Rattle.cost_laws.specs.ReduceLaws.{ReducedBy, Absorbed, absorbed-reduces, absorbed-never-more, eliminate-absorbed}
 use Rattle.cost_laws.specs.DegreeThreeLaws.{Triple, triple-of, three-absorbed}
 use Rattle.cost_laws.specs.DominantLaws.{contractChoice, contract-reduces, contract-never-more}
 use Rattle.cost_laws.specs.BlockCost.{mask-below, boundary-outside, pair-of}
 use Rattle.cost_laws.specs.Found.{SmallBlock, found-block, found-live, found-least}
 use Rattle.cost_laws.specs.Neat.{neat-tidy, boundary-live}
-use Rattle.cost_laws.specs.BlockSteps.{choice-is, played, block-grown-back}
+use Rattle.cost_laws.specs.BlockSteps.{choice-is, playedBack, block-grown-back}
 use Rattle.cost_laws.specs.Growth.{neighbours-apart}
 use Rattle.cost_laws.specs.Stands.{Fine, Alive, Stands, marked, alive-other, neighbours-alive, eliminate-stands, three-stands, contract-stands, block-stands}
 use Rattle.objective_laws.specs.FixLaws.{reduced-plan, setAt}
 use Rattle.cost_laws.specs.BlockCost.{cost-ext}
-use Rattle.sound_laws.specs.Sound.{Taken, Steps, decisions, Sound}
+use Rattle.sound_laws.specs.Sound.{StepTaken, Steps, decisions, Sound}
 use Rattle.sound_laws.specs.Ascending.{ascending-upto, bits-below}
 
 -- ---- one decision, by one step whose choice is that of the reduction
-module _ (g : Graph) (f : Fine g) (s : Step) (t : Taken (g .n) (g .states) s) where
+module _ (g : Graph) (f : Fine g) (s : Step) (t : StepTaken (g .n) (g .states) s) where
   one-sound : {g′ : Graph} {c : (ℕ → Bool) → Bool} → Stands (g .n) (set (g .states) (s .decision) 3) g′ → ReducedBy (s .decision) c g g′
       → ((x : ℕ → Bool) → bit (s .choices) (maskAt x (s .near)) ≡ c x) → ((x : ℕ → Bool) → cost g′ x ≤ℤ cost g x) → Sound g (s ∷ []) g′
-  unfolding marked played
+  unfolding marked playedBack
   one-sound {g′} {c} w r h never = record {
     taken = (t, tt);
     stands = w;
     exact = λ x.
-        cost-ext g (played (s ∷ []) x) (setAt (s .decision) (c x) x) (λ k. ap (λ (b : Bool). cond (eqb k (s .decision)) b (x k)) (h x))
+        cost-ext g (playedBack (s ∷ []) x) (setAt (s .decision) (c x) x) (λ k. ap (λ (b : Bool). cond (eqb k (s .decision)) b (x k)) (h x))
         ∙ sym (reduced-plan g (s .decision) (f .shaped) (t .decision .0) r x);
     never = never;
   }
@@ -54,7 +54,7 @@ neighbours-ascend g i = ascending-upto (λ j. not (isZeroZ (edge g i j))) (g .n)
 
 module _ (g : Graph) (f : Fine g) (i : ℕ) (a : Alive (g .n) (g .states) i) where
   -- the step of Eliminate, of degree at most 3
-  step-taken : degree g i ≤ 3 → Taken (g .n) (g .states) (stepOf g i)
+  step-taken : degree g i ≤ 3 → StepTaken (g .n) (g .states) (stepOf g i)
   unfolding stepOf
   step-taken h = record {
     decision = a;
@@ -73,7 +73,7 @@ module _ (g : Graph) (f : Fine g) (i : ℕ) (a : Alive (g .n) (g .states) i) whe
 
   pub eliminate-sound : degree g i ≤ 2 → Sound g (stepOf g i ∷ []) (eliminate i g)
   eliminate-sound h =
-      let p : Pair (g .n) (neighbours g i) = pair-of (neighbours-apart g i) h in
+      let p : AtMostTwo (g .n) (neighbours g i) = pair-of (neighbours-apart g i) h in
       absorbed-sound (omega arith) (eliminate-stands g f i (a .0) p) (eliminate-absorbed g i (f .shaped) (a .0) p)
 
   pub three-sound : degree g i ≡ 3 → cubic g i ≡ false → Sound g (stepOf g i ∷ []) (eliminate3 i g)
@@ -82,7 +82,7 @@ module _ (g : Graph) (f : Fine g) (i : ℕ) (a : Alive (g .n) (g .states) i) whe
       absorbed-sound (omega arith) (three-stands g f i (a .0) p) (three-absorbed g i (f .shaped) (a .0) p c)
 
   module _ (j : ℕ) (m : mem j (neighbours g i) ≡ true) where
-    contract-taken : Taken (g .n) (g .states) (contractStep i j g)
+    contract-taken : StepTaken (g .n) (g .states) (contractStep i j g)
     unfolding contractStep mem ascending all
     contract-taken = record {
       decision = a;
