@@ -15,23 +15,23 @@ use Rattle.back.specs.Calls.{Answers, GrownBack, Projected, GrownBackBlo
 use Rattle.accepted_laws.specs.Rows.{no-row, block-passed, bytes-fine}
 
 -- the bytes are as long as they have to be and each is 0 or 1, and the output is n long
-pub record Fine (r : Record) (long : ℕ) (bytes slice : List ℕ) : Type 0 where
+pub record GoodBytes (r : Record) (long : ℕ) (bytes slice : List ℕ) : Type 0 where
   pub bytes-long : length bytes ≡ long
   pub slice-long : length slice ≡ r .n
   pub bits : some (over 1) bytes ≡ false
 
 -- "A reduced answer is r long, a full plan n."
 abbrev pub FineAnswer : Record → List ℕ → List ℕ → Type 0
-FineAnswer r = Fine r (length (remainingOf (statesOf r)))
+FineAnswer r = GoodBytes r (length (remainingOf (statesOf r)))
 
 abbrev pub FinePlan : Record → List ℕ → List ℕ → Type 0
-FinePlan r = Fine r (r .n)
+FinePlan r = GoodBytes r (r .n)
 
 -- the number is 0, and the slice holds x
 at-zero : (k : ℕ) (x y : List ℕ) (number : ℕ) (exit : List ℕ) → k ≡ 0 → Answers k x y number exit → (number ≡ 0) × (exit ≡ x)
 at-zero k x y number exit e g = (g .number-is ∙ e, g .slice-is ∙ ap (λ (m : ℕ). unless m x y) e)
 
-passed : {r : Record} {long : ℕ} {bytes slice : List ℕ} → Fine r long bytes slice → firstRow (bytesRows r long bytes (length slice)) ≡ 0
+passed : {r : Record} {long : ℕ} {bytes slice : List ℕ} → GoodBytes r long bytes slice → firstRow (bytesRows r long bytes (length slice)) ≡ 0
 passed {r} {long} {bytes} {slice} f = bytes-fine r long bytes (length slice) (f .bytes-long) (f .slice-long) (f .bits)
 
 module _ (r : Record) (bytes slice : List ℕ) (number : ℕ) (exit : List ℕ) (sound : broken r ≡ false) where

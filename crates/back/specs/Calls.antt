@@ -10,33 +10,33 @@ use Rattle.rules.specs.Call.{unless, grown, projected, planAfter, answerAfter, 
 use Rattle.rules.specs.declared.Record.{Record}
 
 -- a call's number and its slice at exit are these
-pub record Gives (refusal : ℕ) (slice : List ℕ) (number : ℕ) (exit : List ℕ) : Type 0 where
+pub record Returns (refusal : ℕ) (slice : List ℕ) (number : ℕ) (exit : List ℕ) : Type 0 where
   pub number-is : number ≡ refusal
   pub slice-is : exit ≡ slice
 
 -- grow_back, with `plan` lent
 abbrev pub GrownBack : Record → List ℕ → List ℕ → ℕ → List ℕ → Type 0
-GrownBack r answer plan = Gives (growRefusal r answer (length plan)) (planAfter r answer plan)
+GrownBack r answer plan = Returns (growRefusal r answer (length plan)) (planAfter r answer plan)
 
 -- project, with `out` lent
 abbrev pub Projected : Record → List ℕ → List ℕ → ℕ → List ℕ → Type 0
-Projected r plan out = Gives (projectRefusal r plan (length out)) (answerAfter r plan out)
+Projected r plan out = Returns (projectRefusal r plan (length out)) (answerAfter r plan out)
 
 -- the same straight from a block
 abbrev pub GrownBackBlock : List ℕ → List ℕ → List ℕ → ℕ → List ℕ → Type 0
-GrownBackBlock block answer plan = Gives (growBlockRefusal block answer (length plan)) (blockPlanAfter block answer plan)
+GrownBackBlock block answer plan = Returns (growBlockRefusal block answer (length plan)) (blockPlanAfter block answer plan)
 
 abbrev pub ProjectedBlock : List ℕ → List ℕ → List ℕ → ℕ → List ℕ → Type 0
-ProjectedBlock block plan out = Gives (projectBlockRefusal block plan (length out)) (blockAnswerAfter block plan out)
+ProjectedBlock block plan out = Returns (projectBlockRefusal block plan (length out)) (blockAnswerAfter block plan out)
 
 -- "any two results meeting it are equal", of all four
-pub one-result : {k : ℕ} {x : List ℕ} {m n : ℕ} {y z : List ℕ} → Gives k x m y → Gives k x n z → (m ≡ n) × (y ≡ z)
+pub one-result : {k : ℕ} {x : List ℕ} {m n : ℕ} {y z : List ℕ} → Returns k x m y → Returns k x n z → (m ≡ n) × (y ≡ z)
 one-result a b = (a .number-is ∙ sym (b .number-is), a .slice-is ∙ sym (b .slice-is))
 
 -- ---- what a caller has of it
 -- the slice held y: it holds x where the number k is 0, and y where it is not
 abbrev pub Answers : ℕ → List ℕ → List ℕ → ℕ → List ℕ → Type 0
-Answers k x y = Gives k (unless k x y)
+Answers k x y = Returns k (unless k x y)
 
 pub done : (k : ℕ) (x y exit : List ℕ) → Answers k x y 0 exit → exit ≡ x
 done k x y exit g = g .slice-is ∙ ap (λ (m : ℕ). unless m x y) (sym (g .number-is))

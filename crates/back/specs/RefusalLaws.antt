@@ -29,20 +29,20 @@ module _ (b : List ℕ) (read : Reading) (is : read ≡ reading b) where
 
 -- ---- what a call gives, whose slice held y and is to hold x
 -- a row holds
-pub refused : (k number : ℕ) (x y : List ℕ) → number ≡ k → (number ≡ 0 → ⊥) → Answers k x y number y
-refused zero number x y e h = absurd (h e)
-refused (suc k) number x y e h = record { number-is = e; slice-is = refl }
+pub answers-refused : (k number : ℕ) (x y : List ℕ) → number ≡ k → (number ≡ 0 → ⊥) → Answers k x y number y
+answers-refused zero number x y e h = absurd (h e)
+answers-refused (suc k) number x y e h = record { number-is = e; slice-is = refl }
 
 -- none does
-pub accepted : (k : ℕ) (x y exit : List ℕ) → k ≡ 0 → exit ≡ x → Answers k x y 0 exit
-accepted k x y exit e h = record { number-is = sym e; slice-is = h ∙ ap (λ (m : ℕ). unless m x y) (sym e) }
+pub answers-accepted : (k : ℕ) (x y exit : List ℕ) → k ≡ 0 → exit ≡ x → Answers k x y 0 exit
+answers-accepted k x y exit e h = record { number-is = sym e; slice-is = h ∙ ap (λ (m : ℕ). unless m x y) (sym e) }
 
 -- ---- the same of a record passed in and of a block: `rows` are the rows 7 and 8 for a record, and x is what is asked of it
 module _ (rows : Record → List (ℕ × Bool)) (x : Record → List ℕ) (y : List ℕ) where
   module _ (r : Record) where
     pub of-broken : broken r ≡ true → Answers (firstRow ((12, broken r) ∷ rows r)) (x r) y 12 y
     unfolding firstRow
-    of-broken e = rw e (refused 12 12 (x r) y refl (λ z. omega arith))
+    of-broken e = rw e (answers-refused 12 12 (x r) y refl (λ z. omega arith))
 
     pub of-unbroken : broken r ≡ false → {number : ℕ} {exit : List ℕ} → Answers (firstRow (rows r)) (x r) y number exit → Answers (firstRow ((12, broken r) ∷ rows r)) (x r) y number exit
     of-unbroken e g = rw (no-row 12 (rows r) e) g
@@ -53,7 +53,7 @@ module _ (rows : Record → List (ℕ × Bool)) (x : Record → List ℕ) (y : L
       where
         by : (k : ℕ) → (k ≡ 0 → ⊥) → Answers (unless k (firstRow (rows (recordIn b))) k) (x (recordIn b)) y k y
         by zero h = absurd (h refl)
-        by (suc k) h = refused (suc k) (suc k) (x (recordIn b)) y refl h
+        by (suc k) h = answers-refused (suc k) (suc k) (x (recordIn b)) y refl h
 
     pub of-read : read .answer ≡ 0 → {number : ℕ} {exit : List ℕ} → Answers (firstRow (rows (read .«record»))) (x (read .«record»)) y number exit → Answers (firstRow (blockRows b ++ rows (recordIn b))) (x (recordIn b)) y number exit
     of-read z {number} {exit} g =

@@ -32,9 +32,9 @@ all-weaken : (p q : ℕ → Bool) (xs : List ℕ) → ((j : ℕ) → p j ≡ tru
 all-weaken p q xs w e = all-of q xs (λ k m. w k (all-in p xs e k m))
 
 -- each neighbour of each step is below n
-abbrev pub Within : ℕ → List rule.Step → Type 0
-Within n [] = Unit {0}
-Within n (s ∷ ss) = (all (λ j. ltb j n) (s .near) ≡ true) × Within n ss
+abbrev pub NearWithin : ℕ → List rule.Step → Type 0
+NearWithin n [] = Unit {0}
+NearWithin n (s ∷ ss) = (all (λ j. ltb j n) (s .near) ≡ true) × NearWithin n ss
 
 -- ---- the first n entries play alone
 module _ (n : ℕ) where
@@ -52,7 +52,7 @@ module _ (n : ℕ) where
       by (yes h) = sym (take-set-lt n x d v h)
       by (no h) = set-out (take n x) d v (omega (arith, length-take n x)) ∙ sym (take-set-le n x d v (omega arith))
 
-  pub front-plays : (steps : List rule.Step) (x : List ℕ) → Within n steps → take n (playAll steps x) ≡ playAll steps (take n x)
+  pub front-plays : (steps : List rule.Step) (x : List ℕ) → NearWithin n steps → take n (playAll steps x) ≡ playAll steps (take n x)
   unfolding play playAll
   front-plays [] x w = refl
   front-plays (s ∷ ss) x w =
@@ -74,14 +74,14 @@ module _ (r : Record) (h : broken r ≡ false) where
   unfolding stepFine
   near-below k e = all-weaken (nearFine r k) (λ j. ltb j (r .n)) (nearOf (stepAt r k)) (λ j f. and-true _ _ (and-true _ _ f .0) .0) (each _ 5 e)
 
-  steps-within : (c a : ℕ) → a + c ≤ length (r .steps) → all (stepFine r) (from a c) ≡ true → Within (r .n) (map played (take c (drop a (r .steps))))
+  steps-within : (c a : ℕ) → a + c ≤ length (r .steps) → all (stepFine r) (from a c) ≡ true → NearWithin (r .n) (map played (take c (drop a (r .steps))))
   unfolding all from
   steps-within zero a l e = tt
   steps-within (suc c) a l e =
       let t = and-true (stepFine r a) (all (stepFine r) (from (suc a) c)) e in
       rw (drop-cons (r .steps) a noStep (omega arith)) (near-below a (t .0), steps-within c (suc a) (omega arith) (t .1))
 
-  pub record-within : length (r .steps) ≡ 64 → Within (r .n) (stepsOf r)
+  pub record-within : length (r .steps) ≡ 64 → NearWithin (r .n) (stepsOf r)
   unfolding stepsOf sound
   record-within l = steps-within (r .count) 0 (omega (arith, few-steps)) (each _ 5 (not-false _ h))
 

@@ -20,8 +20,8 @@ unfoldable pub intoRefusal : Objective → ℕ → ℕ → ℕ → ℕ → ℕ
 intoRefusal o l e b c = firstRow (reduceRows o l e (not (eqb c 14)) ++ (9, not (eqb b 512)) ∷ [])
 
 -- the counts in their order, then takes, blocks, units, and 1 for a run that is complete
-abbrev pub listed : Reduction → List ℕ
-listed r =
+abbrev pub countList : Reduction → List ℕ
+countList r =
     r .counts .eliminated
     ∷ r .counts .«degree_three_eliminated»
     ∷ r .counts .«degree_three_skipped»
@@ -44,7 +44,7 @@ pub record GivesInto (k : ℕ) (o : Objective) (l e : List ℤ) (b c : List ℕ)
   pub linear-is : l′ ≡ unless k (linearAfter o l e) l
   pub edges-is : e′ ≡ unless k (edgesAfter o l e) e
   pub block-is : b′ ≡ unless k (blockOf (reduction o (length l) (length e) .«record»)) b
-  pub counts-is : c′ ≡ unless k (listed (reduction o (length l) (length e))) c
+  pub counts-is : c′ ≡ unless k (countList (reduction o (length l) (length e))) c
 
 abbrev pub ReducedInto : Objective → List ℤ → List ℤ → List ℕ → List ℕ → ℕ → List ℤ → List ℤ → List ℕ → List ℕ → Type 0
 ReducedInto o l e b c = GivesInto (intoRefusal o (length l) (length e) (length b) (length c)) o l e b c

@@ -15,7 +15,7 @@ use Rattle.rules.specs.Call.{reading}
 use Rattle.record_laws.specs.Bytes.{Bytes}
 use Rattle.record_laws.specs.RoundTrip.{is-readable, written-read}
 use Rattle.back.specs.Calls.{done}
-use Rattle.back.specs.RefusalLaws.{refused, accepted, of-unread, of-read}
+use Rattle.back.specs.RefusalLaws.{answers-refused, answers-accepted, of-unread, of-read}
 use Rattle.balecreak.specs.Calls.{copyRefusal, Copied}
 use Rattle.whole.specs.Tests.{row-off}
 
@@ -23,7 +23,7 @@ use Rattle.whole.specs.Tests.{row-off}
 module _ (b out : List ℕ) where
   pub copy-short : (length out ≡ 512 → ⊥) → Copied b out 9 out
   unfolding copyRefusal firstRow
-  copy-short h = rw (ne-eqb (length out) 512 h) (refused 9 9 (blockOf (recordIn b)) out refl (λ z. omega arith))
+  copy-short h = rw (ne-eqb (length out) 512 h) (answers-refused 9 9 (blockOf (recordIn b)) out refl (λ z. omega arith))
 
   module _ (long : length out ≡ 512) (read : Reading) (is : read ≡ reading b) where
     pub copy-unread : (read .answer ≡ 0 → ⊥) → Copied b out (read .answer) out
@@ -32,7 +32,7 @@ module _ (b out : List ℕ) where
 
     pub copy-read : (exit : List ℕ) → read .answer ≡ 0 → exit ≡ blockOf (read .«record») → Copied b out 0 exit
     unfolding copyRefusal firstRow
-    copy-read exit z e = rw (eq-eqb (length out) 512 long) (of-read (λ r. []) blockOf out b read is z (accepted 0 (blockOf (read .«record»)) out exit refl e))
+    copy-read exit z e = rw (eq-eqb (length out) 512 long) (of-read (λ r. []) blockOf out b read is z (answers-accepted 0 (blockOf (read .«record»)) out exit refl e))
 
 -- ---- a copy that is not refused is the block itself; a lent slice of bytes is `Bytes`
 pub copied-same : (b out exit : List ℕ) → Bytes b → Copied b out 0 exit → exit ≡ b

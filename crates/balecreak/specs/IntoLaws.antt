@@ -17,7 +17,7 @@ use Rattle.accepted_laws.specs.Accept.{Accepted, accept-rows}
 use Rattle.accepted_laws.specs.Rows.{rows-below, both-passed, rows-off}
 use Rattle.reduce.specs.Gives.{Done}
 use Rattle.reduce.specs.GivesLaws.{gives-done}
-use Rattle.balecreak.specs.Calls.{listed, intoRefusal, GivesInto, ReducedInto}
+use Rattle.balecreak.specs.Calls.{countList, intoRefusal, GivesInto, ReducedInto}
 
 -- no row holds, with outputs that are l, e, b and c long
 pub record Passed (o : Objective) (l e b c : ℕ) : Type 0 where
@@ -54,7 +54,7 @@ module _ (o : Objective) (l e : List ℤ) (b c : List ℕ) where
       by (suc k) i = record { number-is = i; linear-is = refl; edges-is = refl; block-is = refl; counts-is = refl }
 
   -- none does
-  pub accepted-into : (r : Reduction) (l′ e′ : List ℤ) (b′ c′ : List ℕ) → intoRefusal o (length l) (length e) (length b) (length c) ≡ 0 → Done o r l′ e′ → b′ ≡ blockOf (r .«record») → c′ ≡ listed r → ReducedInto o l e b c 0 l′ e′ b′ c′
+  pub accepted-into : (r : Reduction) (l′ e′ : List ℤ) (b′ c′ : List ℕ) → intoRefusal o (length l) (length e) (length b) (length c) ≡ 0 → Done o r l′ e′ → b′ ≡ blockOf (r .«record») → c′ ≡ countList r → ReducedInto o l e b c 0 l′ e′ b′ c′
   accepted-into r l′ e′ b′ c′ z d p q =
       let g = gives-done o 0 l e (sym (into-passed o (length l) (length e) (length b) (length c) z .reduces)) r l′ e′ refl d in
       rw z record {
@@ -62,5 +62,5 @@ module _ (o : Objective) (l e : List ℤ) (b c : List ℕ) where
         linear-is = g .linear;
         edges-is = g .edges;
         block-is = p ∙ ap (λ (r : Reduction). blockOf (r .«record»)) (g .reduction);
-        counts-is = q ∙ ap listed (g .reduction);
+        counts-is = q ∙ ap countList (g .reduction);
       }

@@ -4,12 +4,12 @@ ghost use lib.ListN.{length};
 ghost use Rattle.rules.specs.Objective.{objective};
 ghost use Rattle.rules.specs.Refuse.{readRefusal};
 ghost use Rattle.back.specs.Calls.{GrownBackBlock, ProjectedBlock};
-ghost use Rattle.balecreak.specs.Calls.{listed, ReducedInto, Copied};
+ghost use Rattle.balecreak.specs.Calls.{countList, ReducedInto, Copied};
 use rules::Reduction;
 
 // What a vendor's list of counts is to hold.
 fn listing(r: Reduction) -> [u32; 14]
-    ensures { λ a. ⌜ a ≡ listed r ⌝ }
+    ensures { λ a. ⌜ a ≡ countList r ⌝ }
 {
     let c = r.counts;
     let complete = whole::one_if(r.complete);

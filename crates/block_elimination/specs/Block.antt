@@ -21,11 +21,11 @@ pub record Lowest (c : ℕ → ℕ → ℤ) (count size : ℕ) (masks : List ℕ
   pub bounded : Small 184717953466368 table
 
 -- the boundary: of two decisions the first `width`
-abbrev pub pairOf : ℕ → ℕ → ℕ → List ℕ
-pairOf first second width = take width (first ∷ second ∷ [])
+abbrev pub outsidePair : ℕ → ℕ → ℕ → List ℕ
+outsidePair first second width = take width (first ∷ second ∷ [])
 
 abbrev pub outsideOf : Outside → List ℕ
-outsideOf o = pairOf (o .first) (o .second) (o .width)
+outsideOf o = outsidePair (o .first) (o .second) (o .width)
 
 -- at most two decisions, and 0 for one that is missing
 pub record Beside (o : Outside) : Type 0 where

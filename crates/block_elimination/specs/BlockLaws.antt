@@ -22,20 +22,20 @@ use Rattle.rules.specs.SmallBlock.{boundary, inner, cheapest, bestMask, blockTa
 use Rattle.accepted_laws.specs.Small.{small-set}
 use Rattle.graph.specs.Small.{dropped-within}
 use Rattle.block_minima.specs.Weights.{weights, weights-inner, Minimum}
-use Rattle.block_elimination.specs.Block.{Lowest, pairOf, memberStep}
+use Rattle.block_elimination.specs.Block.{Lowest, outsidePair, memberStep}
 
 -- ---- a step as a record holds it
 pub held-step : (i c d f s t : ℕ) (near : List ℕ) → d ≡ length near → f ≡ getD near 0 0 → s ≡ getD near 1 0 → t ≡ getD near 2 0
     → _≡_ {A = Step} (record { decision = i; degree = d; first = f; second = s; third = t; choices = c }) (hold (rule.step i near c))
 held-step i c d f s t near p q r u = rw (p, q, r, u)
 
-pub pair-length : (a b w : ℕ) → w ≤ 2 → length (pairOf a b w) ≡ w
+pub pair-length : (a b w : ℕ) → w ≤ 2 → length (outsidePair a b w) ≡ w
 pair-length a b zero h = refl
 pair-length a b (suc zero) h = refl
 pair-length a b (suc (suc zero)) h = refl
 pair-length a b (suc (suc (suc w))) h = absurd (omega arith)
 
-pub pair-third : (a b w : ℕ) → getD (pairOf a b w) 2 0 ≡ 0
+pub pair-third : (a b w : ℕ) → getD (outsidePair a b w) 2 0 ≡ 0
 pair-third a b zero = refl
 pair-third a b (suc zero) = refl
 pair-third a b (suc (suc w)) = third w

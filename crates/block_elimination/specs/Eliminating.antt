@@ -26,7 +26,7 @@ use Rattle.small_block.specs.ByMasks.{blockBy}
 use Rattle.small_block.specs.Seeking.{a-block}
 use Rattle.small_block.specs.Tables.{Boundary}
 use Rattle.block_minima.specs.Weights.{weights, Listed}
-use Rattle.block_elimination.specs.Block.{Lowest, Beside, pairOf, memberStep, Eliminable}
+use Rattle.block_elimination.specs.Block.{Lowest, Beside, outsidePair, memberStep, Eliminable}
 use Rattle.block_elimination.specs.BlockLaws.{steps-are, lowest-are, within-drop-all}
 
 module _ {g : Graph} {order : List ℕ} {count : ℕ} (w : Eliminable g order count) where
@@ -73,10 +73,10 @@ module _ {g : Graph} {order : List ℕ} {count : ℕ} {out : List ℕ} {width fi
   abbrev b : List ℕ
   b = take count order
 
-  near-is : pairOf first second width ≡ boundary g (take count order)
+  near-is : outsidePair first second width ≡ boundary g (take count order)
   near-is =
-      ap₂ (λ (x y : ℕ). pairOf x y width) (w .one ∙ ap (λ (xs : List ℕ). getD xs 0 0) (w .outside .is)) (w .two ∙ ap (λ (xs : List ℕ). getD xs 1 0) (w .outside .is))
-      ∙ ap (pairOf (getD (boundary g b) 0 0) (getD (boundary g b) 1 0)) (sym (w .outside .size))
+      ap₂ (λ (x y : ℕ). outsidePair x y width) (w .one ∙ ap (λ (xs : List ℕ). getD xs 0 0) (w .outside .is)) (w .two ∙ ap (λ (xs : List ℕ). getD xs 1 0) (w .outside .is))
+      ∙ ap (outsidePair (getD (boundary g b) 0 0) (getD (boundary g b) 1 0)) (sym (w .outside .size))
       ∙ pair-whole (boundary g b) (w .block .block .narrow)
 
   pub out-beside : Beside (record { first = first; second = second; width = width })
@@ -96,7 +96,7 @@ module _ {g : Graph} {order : List ℕ} {count : ℕ} {out : List ℕ} {width fi
 
   -- what absorbing is owed
   pub table-fits : (h : Graph) → h ≡ dropAll (take count order) g
-      → Apart 64 (pairOf first second width) × (width ≤ 2) × Within (graph (h .n) (h .constant) (h .linear) (h .edges) []) × Small (2 ^ 50) table
+      → Apart 64 (outsidePair first second width) × (width ≤ 2) × Within (graph (h .n) (h .constant) (h .linear) (h .edges) []) × Small (2 ^ 50) table
   table-fits h e = (
     subst (Apart 64) (sym near-is) (apart-wider (w .block .few) (boundary-apart g b)),
     out-beside .few,
@@ -112,7 +112,7 @@ module _ {g : Graph} {order : List ℕ} {count : ℕ} {out : List ℕ} {width fi
       ∙ tab-at (blockTable g b) (2 ^ width) k (pos 0) l
 
   -- the graph that is left
-  pub block-left : (h r : Graph) → h ≡ dropAll (take count order) g → r ≡ rule.absorb (λ k. getD table k (pos 0)) (pairOf first second width) h
+  pub block-left : (h r : Graph) → h ≡ dropAll (take count order) g → r ≡ rule.absorb (λ k. getD table k (pos 0)) (outsidePair first second width) h
       → r ≡ eliminateBlock (take count order) g
   unfolding eliminateBlock
   block-left h r e d =
@@ -122,10 +122,10 @@ module _ {g : Graph} {order : List ℕ} {count : ℕ} {out : List ℕ} {width fi
       (λ k l. entry-is k (subst (λ (v : ℕ). k < 2 ^ v) (w .outside .size) l))
 
   -- the members' steps
-  pub block-grown : tab (λ k. memberStep (pairOf first second width) masks k (getD order k 0)) count ≡ blockSteps g (take count order) 0 (take count order)
+  pub block-grown : tab (λ k. memberStep (outsidePair first second width) masks k (getD order k 0)) count ≡ blockSteps g (take count order) 0 (take count order)
   block-grown =
-      ap (tab (λ k. memberStep (pairOf first second width) masks k (getD order k 0))) (sym (members-size (w .block)))
-      ∙ steps-are g b (pairOf first second width) order masks width near-is (w .outside .size) (out-beside .few) (best-are .0)
+      ap (tab (λ k. memberStep (outsidePair first second width) masks k (getD order k 0))) (sym (members-size (w .block)))
+      ∙ steps-are g b (outsidePair first second width) order masks width near-is (w .outside .size) (out-beside .few) (best-are .0)
       (λ k l. member-at (w .block) k (omega (arith, members-size (w .block))))
 
 -- what the search returns may be eliminated

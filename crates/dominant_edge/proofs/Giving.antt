@@ -34,7 +34,7 @@ use Rattle.graph.specs.NearLaws.{mem-inside}
 use Rattle.graph.specs.Shows.{Shows}
 use Rattle.accepted_laws.specs.Small.{Small, small-tab}
 use Rattle.graph.specs.declared.Frame.{Frame}
-use Rattle.dominant_edge.specs.Answer.{Gone, Shown-on}
+use Rattle.dominant_edge.specs.Answer.{WasNear, Shown-on}
 
 -- ---- the two walks over the decision's neighbours
 abbrev pub turned-by : ℕ → ℕ → ℤ → Graph → Graph
@@ -145,7 +145,7 @@ module _ {row e₀ e : List ℤ} {m j rest : ℕ} {ms₀ ms : List ℕ} (k : Kee
       same p r l x y = rw q (cells-other e (pos 0) j at p r _ _ (k .below) at-low l x y)
 
   -- of a walk by which each but j gives, by `give`, the edge that i had to it
-  module _ {old : Graph} {i : ℕ} (gone : Gone row m old i) (walk : List ℕ → Graph → Graph) (give : ℕ → ℤ → Graph → Graph)
+  module _ {old : Graph} {i : ℕ} (gone : WasNear row m old i) (walk : List ℕ → Graph → Graph) (give : ℕ → ℤ → Graph → Graph)
       (cons : (t : ℕ) (js : List ℕ) (g : Graph) → walk (t ∷ js) g ≡ walk js (cond (eqb t j) g (give t (edge old i t) g))) (g : Graph) where
     next : (b : Bool) → eqb at j ≡ b → walk (these rest) g ≡ walk (these left) (cond b g (give at (edge old i at) g))
     next b q =
@@ -181,7 +181,7 @@ module _ (g : Graph) (i c : ℕ) (row : List ℤ) (r : row ≡ tab (λ j. edge g
   pub row-small : {b : ℕ} → ((k : ℕ) → ∣ getD (g .edges) k (pos 0) ∣ ≤ b) → Small b row
   row-small {b} h = record { each = λ k. omega (arith, ap (λ (z : ℤ). ∣ z ∣) (row-at k), small-tab {b = b} (λ j. edge g i j) (g .n) (λ j. h (64 * i + j)) .each k) }
 
-  pub row-gone : (m : ℕ) → these m ≡ neighbours g i → Gone row m g i
+  pub row-gone : (m : ℕ) → these m ≡ neighbours g i → WasNear row m g i
   row-gone m s = record {
     around = s;
     weights = λ t q. row-at t ∙ tab-at (λ j. edge g i j) (g .n) t (pos 0) (mask-inside g i m t s q);

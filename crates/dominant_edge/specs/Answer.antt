@@ -35,28 +35,28 @@ unfoldable pub dominantOf : Graph → ℕ → Dominant
 dominantOf g i = answerOf g i (dominant g i)
 
 -- a decision i of weight a, whose neighbours are those of the mask m, in whatever graph has these edges
-pub record Seen (a : ℤ) (m i : ℕ) (e : List ℤ) (g : Graph) : Type 0 where
+pub record MatchesAt (a : ℤ) (m i : ℕ) (e : List ℤ) (g : Graph) : Type 0 where
   pub weight : lin g i ≡ a
   pub around : these m ≡ neighbours g i
   pub edges : g .edges ≡ e
 
 abbrev pub Bounds-are : Bounds → ℤ → ℕ → ℕ → List ℤ → Type 0
-Bounds-are r a m i e = (g : Graph) → Seen a m i e g → (r .lo ≡ lo g i) × (r .hi ≡ hi g i)
+Bounds-are r a m i e = (g : Graph) → MatchesAt a m i e g → (r .lo ≡ lo g i) × (r .hi ≡ hi g i)
 
 abbrev pub Finds : Dominant → ℤ → ℕ → ℕ → List ℤ → Type 0
-Finds r a m i e = (g : Graph) → Seen a m i e g → r ≡ dominantOf g i
+Finds r a m i e = (g : Graph) → MatchesAt a m i e g → r ≡ dominantOf g i
 
 -- what was near a decision i that has gone: those of the mask, with their edges in its row
-pub record Gone (row : List ℤ) (m : ℕ) (old : Graph) (i : ℕ) : Type 0 where
+pub record WasNear (row : List ℤ) (m : ℕ) (old : Graph) (i : ℕ) : Type 0 where
   pub around : these m ≡ neighbours old i
   pub weights : (t : ℕ) → mem t (these m) ≡ true → getD row t (pos 0) ≡ edge old i t
 
 -- its edges are given to j
 abbrev pub Turns : List ℤ → ℕ → ℕ → List ℤ → List ℤ → List ℤ → List ℤ → Type 0
-Turns row m j l e l′ e′ = (old : Graph) (i : ℕ) → Gone row m old i → Does (turn old i j (neighbours old i)) l e l′ e′
+Turns row m j l e l′ e′ = (old : Graph) (i : ℕ) → WasNear row m old i → Does (turn old i j (neighbours old i)) l e l′ e′
 
 abbrev pub Moves : List ℤ → ℕ → ℕ → List ℤ → List ℤ → Type 0
-Moves row m j e e′ = (old : Graph) (i : ℕ) → Gone row m old i → DoesEdges (move old i j (neighbours old i)) e e′
+Moves row m j e e′ = (old : Graph) (i : ℕ) → WasNear row m old i → DoesEdges (move old i j (neighbours old i)) e e′
 
 -- and the masks still show the edges
 abbrev pub Shown-on : ℕ → ℕ → List ℤ → List ℕ → List ℤ → List ℕ → Type 0

@@ -15,7 +15,7 @@ use Rattle.rules.specs.Graph.{graph}
 use Rattle.graph.specs.Near.{nearAmong, nearAt}
 use Rattle.graph.specs.NearLaws.{near-more, near-full}
 use Rattle.graph.specs.Shows.{Shows}
-use Rattle.graph.specs.ShowsLaws.{shown}
+use Rattle.graph.specs.ShowsLaws.{shown-neighbours}
 use Rattle.graph.specs.declared.Near.{Near}
 
 -- r is of the decisions of a mask that are not in rest
@@ -32,7 +32,7 @@ module _ (e : List ℤ) (i mask : ℕ) (r : Near) (rest : ℕ) (w : Nearing e i 
   unfolding nearAt
   nearing-end n m h s hi k z c l ss =
       w .is ∙ ap (nearAmong e i)
-      (sym (append-nil (w .past)) ∙ ap (λ (xs : List ℕ). w .past ++ xs) (sym (these-end rest z)) ∙ w .all ∙ ap these k ∙ shown n e m s h c l ss i hi)
+      (sym (append-nil (w .past)) ∙ ap (λ (xs : List ℕ). w .past ++ xs) (sym (these-end rest z)) ∙ w .all ∙ ap these k ∙ shown-neighbours n e m s h c l ss i hi)
 
   module _ (d : rest ≢ 0) (low : rest < 2 ^ 64) where
     abbrev first : ℕ

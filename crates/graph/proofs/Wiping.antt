@@ -22,7 +22,7 @@ use Rattle.whole.specs.Masks.{these, these-apart, mem-these, first-in, bit-none
 use Rattle.whole.specs.Cmp.{zero-of}
 use Rattle.rules.specs.Graph.{clear}
 use Rattle.graph.specs.Shows.{Shows}
-use Rattle.graph.specs.ShowsLaws.{cell, isEdge, Marked, joined}
+use Rattle.graph.specs.ShowsLaws.{edgeCell, isEdge, Marked, joined}
 
 -- ---- clearing, whatever of it is done already
 none-swap : (e : List ℤ) (a b : ℕ) → set (set e a (pos 0)) b (pos 0) ≡ set (set e b (pos 0)) a (pos 0)
@@ -53,7 +53,7 @@ clear-done i j e (suc c) h = go (ℕ-discrete j c) (λ l. clear-done i j e c l)
         ∙ ap (λ (l : List ℤ). set l (64 * c + i) (pos 0)) (none-swap (set l (64 * i + c) (pos 0)) (64 * c + i) (64 * i + c) ∙ ap (λ (l : List ℤ). set l (64 * c + i) (pos 0)) (set-set l (64 * i + c) (pos 0) (pos 0)))
         ∙ set-set (set l (64 * i + c) (pos 0)) (64 * c + i) (pos 0) (pos 0))
 
-clear-none : (i : ℕ) (e : List ℤ) (c : ℕ) → ((q : ℕ) → q < c → (cell e i q ≡ pos 0) × (cell e q i ≡ pos 0)) → clear i c e ≡ e
+clear-none : (i : ℕ) (e : List ℤ) (c : ℕ) → ((q : ℕ) → q < c → (edgeCell e i q ≡ pos 0) × (edgeCell e q i ≡ pos 0)) → clear i c e ≡ e
 unfolding clear
 clear-none i e zero h = refl
 clear-none i e (suc c) h =
@@ -93,7 +93,7 @@ module _ (rest : ℕ) (d : rest ≢ 0) (low : rest < 2 ^ 64) where
     own : getD (set m i rest) i 0 ≡ rest
     own = getD-set-same m i rest 0 (omega (arith, long))
 
-    edge-on : isEdge (cell e i first) ≡ true
+    edge-on : isEdge (edgeCell e i first) ≡ true
     edge-on = sym (s .bits i first hi below) ∙ ap (λ (z : ℕ). bit z first) own ∙ sym (mem-these rest first below) ∙ first-in rest d low
 
     inside : first < n
@@ -140,7 +140,7 @@ pub wipe-end : (n : ℕ) (e : List ℤ) (m : List ℕ) (i rest : ℕ) → Shows 
 wipe-end n e m i rest s hi hn z =
     let long : length m ≡ 64 = sym (length-set m i rest) ∙ s .long in
     let own : getD (set m i rest) i 0 ≡ 0 = getD-set-same m i rest 0 (omega arith) ∙ z in
-    let bare : (q : ℕ) → q < n → cell e i q ≡ pos 0 = λ q h. no-edge (cell e i q) (sym (s .bits i q hi (omega arith)) ∙ ap (λ (x : ℕ). bit x q) own ∙ bit-none q) in
+    let bare : (q : ℕ) → q < n → edgeCell e i q ≡ pos 0 = λ q h. no-edge (edgeCell e i q) (sym (s .bits i q hi (omega arith)) ∙ ap (λ (x : ℕ). bit x q) own ∙ bit-none q) in
     (sym (clear-none i e n (λ q h. (bare q h, s .both q i (omega arith) hi ∙ bare q h))), subst (λ (x : ℕ). Shows n e (set m i x)) z s)
 
 pub wipe-begin : (n : ℕ) (e : List ℤ) (m : List ℕ) (i rest : ℕ) → Shows n e m → rest ≡ getD m i 0 → Shows n e (set m i rest)

@@ -25,8 +25,8 @@ use Rattle.graph.specs.Shows.{Shows, noMasks}
 use Rattle.graph.specs.NearLaws.{there}
 
 -- the cell of i and j, and whether it is an edge
-abbrev pub cell : List ℤ → ℕ → ℕ → ℤ
-cell e i j = getD e (64 * i + j) (pos 0)
+abbrev pub edgeCell : List ℤ → ℕ → ℕ → ℤ
+edgeCell e i j = getD e (64 * i + j) (pos 0)
 
 abbrev pub isEdge : ℤ → Bool
 isEdge z = not (isZeroZ z)
@@ -40,10 +40,10 @@ these-upto p m n h b z =
     ∙ ap (λ (k : ℕ). those p (upto k)) (sym (add-sub-of-le h))
     ∙ those-upto p n (64 - n) (λ k t u. z k (omega arith) t)
 
-pub shown : (n : ℕ) (e : List ℤ) (m : List ℕ) → Shows n e m → n ≤ 64 → (c : ℤ) (l : List ℤ) (ss : List ℕ) (i : ℕ) → i < 64
+pub shown-neighbours : (n : ℕ) (e : List ℤ) (m : List ℕ) → Shows n e m → n ≤ 64 → (c : ℤ) (l : List ℤ) (ss : List ℕ) (i : ℕ) → i < 64
     → these (getD m i 0) ≡ neighbours (graph n c l e ss) i
 unfolding neighbours
-shown n e m s h c l ss i hi = these-upto (there e i) (getD m i 0) n h (λ k b. s .bits i k hi b) (λ k b t. ap isEdge (s .none i k hi b t))
+shown-neighbours n e m s h c l ss i hi = these-upto (there e i) (getD m i 0) n h (λ k b. s .bits i k hi b) (λ k b t. ap isEdge (s .none i k hi b t))
 
 -- ---- no edge at all
 pub shows-none : (n : ℕ) (e : List ℤ) (m : List ℕ) → e ≡ noEdges → m ≡ noMasks → Shows n e m
@@ -60,8 +60,8 @@ shows-none n e m p q = record {
     blank : (i : ℕ) → getD m i 0 ≡ 0
     blank i = ap (λ (l : List ℕ). getD l i 0) q ∙ replicate-at {A = ℕ} 0 64 i
 
-    bare : (i j : ℕ) → cell e i j ≡ pos 0
-    bare i j = ap (λ (l : List ℤ). cell l i j) p ∙ replicate-at (pos 0) 4096 (64 * i + j)
+    bare : (i j : ℕ) → edgeCell e i j ≡ pos 0
+    bare i j = ap (λ (l : List ℤ). edgeCell l i j) p ∙ replicate-at (pos 0) 4096 (64 * i + j)
 
 -- ---- one cell is set, and its bit
 -- r is m with l in it where x is an edge, and without l where it is none
@@ -69,16 +69,16 @@ abbrev pub Marked : ℕ → ℕ → ℤ → ℕ → Type 0
 Marked m l x r = (t : ℕ) → t < 64 → bit r t ≡ cond (eqb t l) (isEdge x) (bit m t)
 
 abbrev Bits : List ℤ → List ℕ → Type 0
-Bits e m = (i j : ℕ) → i < 64 → j < 64 → bit (getD m i 0) j ≡ isEdge (cell e i j)
+Bits e m = (i j : ℕ) → i < 64 → j < 64 → bit (getD m i 0) j ≡ isEdge (edgeCell e i j)
 
 module _ (e : List ℤ) (k l : ℕ) (x : ℤ) (edges-long : length e ≡ 4096) (hk : k < 64) (hl : l < 64) where
-  cell-same : cell (set e (64 * k + l) x) k l ≡ x
+  cell-same : edgeCell (set e (64 * k + l) x) k l ≡ x
   cell-same = getD-set-same e (64 * k + l) x (pos 0) (omega arith)
 
   half : (m : List ℕ) (r : ℕ) → length m ≡ 64 → Bits e m → Marked (getD m k 0) l x r → Bits (set e (64 * k + l) x) (set m k r)
   half m r long b w i j hi hj = go (ℕ-discrete i k) (ℕ-discrete j l)
     where
-      go : Dec (i ≡ k) → Dec (j ≡ l) → bit (getD (set m k r) i 0) j ≡ isEdge (cell (set e (64 * k + l) x) i j)
+      go : Dec (i ≡ k) → Dec (j ≡ l) → bit (getD (set m k r) i 0) j ≡ isEdge (edgeCell (set e (64 * k + l) x) i j)
       go (no d) f =
           ap (λ (z : ℕ). bit z j) (getD-set-other m k i r 0 d) ∙ b i j hi hj ∙ sym (ap isEdge (cell-other e (pos 0) k l i j x hl hj (λ t. absurd (d t))))
       go (yes t) (yes u) =
@@ -94,16 +94,16 @@ module _ (n : ℕ) (e : List ℤ) (m : List ℕ) (s : Shows n e m) (k l : ℕ) (
   half-long : length (set e (64 * k + l) x) ≡ 4096
   half-long = length-set e (64 * k + l) x ∙ s .edges-long
 
-  there-on : cell turned k l ≡ x
+  there-on : edgeCell turned k l ≡ x
   there-on = still-set (pos 0) x (set e (64 * k + l) x) (64 * l + k) (64 * k + l) (cell-same e k l x (s .edges-long) hk hl)
 
-  back-on : cell turned l k ≡ x
+  back-on : edgeCell turned l k ≡ x
   back-on = cell-same (set e (64 * k + l) x) l k x half-long hl hk
 
-  off : (p q : ℕ) → q < 64 → (p ≡ k → q ≢ l) → (p ≡ l → q ≢ k) → cell turned p q ≡ cell e p q
+  off : (p q : ℕ) → q < 64 → (p ≡ k → q ≢ l) → (p ≡ l → q ≢ k) → edgeCell turned p q ≡ edgeCell e p q
   off p q hq c d = cells-other e (pos 0) k l p q x x hk hl hq c d
 
-  turned-both : (p q : ℕ) → p < 64 → q < 64 → cell turned p q ≡ cell turned q p
+  turned-both : (p q : ℕ) → p < 64 → q < 64 → edgeCell turned p q ≡ edgeCell turned q p
   turned-both p q hp hq = cases (eqb p k && eqb q l)
       (λ t.
       let c = and-true (eqb p k) (eqb q l) t in
@@ -136,7 +136,7 @@ module _ (n : ℕ) (e : List ℤ) (m : List ℕ) (s : Shows n e m) (k l : ℕ) (
       }
 
 -- an edge gains v
-pub gained : (n : ℕ) (e : List ℤ) (m : List ℕ) → Shows n e m → (k l : ℕ) → k < n → l < n → k < 64 → l < 64 → (v x y : ℤ) → x ≡ cell e k l +ℤ v → y ≡ cell e l k +ℤ v
+pub gained : (n : ℕ) (e : List ℤ) (m : List ℕ) → Shows n e m → (k l : ℕ) → k < n → l < n → k < 64 → l < 64 → (v x y : ℤ) → x ≡ edgeCell e k l +ℤ v → y ≡ edgeCell e l k +ℤ v
     → (r t : ℕ) → r < 2 ^ 64 → t < 2 ^ 64 → Marked (getD m k 0) l x r → Marked (getD (set m k r) l 0) k y t
     → Shows n (set (set e (64 * k + l) x) (64 * l + k) y) (set (set m k r) l t)
 gained n e m s k l kn ln hk hl v x y p q r t fr ft wr wt =

@@ -22,8 +22,8 @@ unfoldable pub teesOf : List ℤ → List ℤ
 teesOf ds = tab (λ m. below0 (getD ds m (pos 0))) 8
 
 -- the choices for the first c masks
-unfoldable pub choicesOf : List ℤ → ℕ → ℕ
-choicesOf ds c = bitsFrom (λ m. ltZ (getD ds m (pos 0)) (pos 0)) 0 c
+unfoldable pub choiceBits : List ℤ → ℕ → ℕ
+choiceBits ds c = bitsFrom (λ m. ltZ (getD ds m (pos 0)) (pos 0)) 0 c
 
 unfoldable pub stepFrom : ℕ → Near → List ℤ → Step
 stepFrom i near ds = record {
@@ -32,7 +32,7 @@ stepFrom i near ds = record {
   first = getD (near .list) 0 0;
   second = getD (near .list) 1 0;
   third = getD (near .list) 2 0;
-  choices = choicesOf ds (2 ^ near .count);
+  choices = choiceBits ds (2 ^ near .count);
 }
 
 -- the rules' own table, in whatever graph the decision stands

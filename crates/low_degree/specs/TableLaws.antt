@@ -28,7 +28,7 @@ use Rattle.accepted_laws.specs.Small.{Small}
 use Rattle.graph.specs.Small.{small-near}
 use Rattle.graph.specs.declared.Near.{Near}
 use Rattle.low_degree.specs.declared.Table.{Table}
-use Rattle.low_degree.specs.Table.{deltasOf, teesOf, choicesOf, stepFrom, Tables}
+use Rattle.low_degree.specs.Table.{deltasOf, teesOf, choiceBits, stepFrom, Tables}
 
 -- the smaller of a weight and 0, kept and read back
 pub read-below : (z r : ℤ) → SFits w64 z → r ≡ below0 (toZ w64 (ofZ w64 z)) → toZ w64 (ofZ w64 r) ≡ below0 z
@@ -70,8 +70,8 @@ module _ (g : Graph) (i : ℕ) (near : Near) (is : near ≡ nearAt g i) (few : n
   unfolding teesOf
   tees-table = tab-same (λ m. below0 (getD (tab (delta g i) 8) m (pos 0))) (tee g i) 8 (λ m l. ap (λ (x : ℤ). below0 x) (tab-at (delta g i) 8 m (pos 0) l))
 
-  pub choices-table : (c : ℕ) → c ≤ 8 → choicesOf (tab (delta g i) 8) c ≡ bitsFrom (chooses g i) 0 c
-  unfolding choicesOf
+  pub choices-table : (c : ℕ) → c ≤ 8 → choiceBits (tab (delta g i) 8) c ≡ bitsFrom (chooses g i) 0 c
+  unfolding choiceBits
   choices-table c h = bits-alike (λ m. ltZ (getD (tab (delta g i) 8) m (pos 0)) (pos 0)) (chooses g i) 0 c (λ m l. ap (λ (x : ℤ). ltZ x (pos 0)) (tab-at (delta g i) 8 m (pos 0) (omega arith)))
 
   pub step-table : stepFrom i near (tab (delta g i) 8) ≡ hold (stepOf g i)

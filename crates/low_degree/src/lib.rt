@@ -15,7 +15,7 @@ ghost use Rattle.graph.specs.Held.{held};
 ghost use Rattle.graph.specs.Near.{nearAt};
 ghost use Rattle.graph.specs.Shows.{Shows};
 ghost use Rattle.accepted_laws.specs.Small.{Small};
-ghost use Rattle.low_degree.specs.Table.{deltasOf, teesOf, choicesOf, stepFrom, Tables};
+ghost use Rattle.low_degree.specs.Table.{deltasOf, teesOf, choiceBits, stepFrom, Tables};
 
 // What a reduction leaves: the frame, and the step that grows its decision back.
 pub struct Reduced {
@@ -89,7 +89,7 @@ pub fn table_of(a: i64, near: graph::Near) -> Table
 // Bit m is the choice for mask m, for the first `masks` of them.
 pub fn choices(deltas: [i64; 8], masks: usize) -> u8
     requires { ⌜ masks ≤ 8 ⌝ }
-    ensures { λ r. ⌜ r ≡ choicesOf deltas masks ⌝ }
+    ensures { λ r. ⌜ r ≡ choiceBits deltas masks ⌝ }
 {
     let mut c: u64 = 0;
     let mut place: u64 = 1;

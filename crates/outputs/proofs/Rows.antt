@@ -18,7 +18,7 @@ use Rattle.whole.specs.Masks.{bit-none, turn, lowest-off}
 use Rattle.whole.specs.Cmp.{zero-of}
 use Rattle.whole.specs.Lists.{length-tab, tab-at, replicate-at}
 use Rattle.whole.specs.Cells.{row-at, column-at}
-use Rattle.outputs.specs.Out.{Places, Turned, Seen, Row, edgeAt}
+use Rattle.outputs.specs.Out.{Places, Turned, MaskShows, Row, edgeAt}
 
 -- ---- an entry, by its row and column
 module _ (e : List ℤ) (list : List ℕ) (n : ℕ) where
@@ -42,7 +42,7 @@ pub record Storing (f : ℕ → ℤ) (list : List ℕ) (n a mask : ℕ) (o₀ o 
   pub others : (k : ℕ) → k / 64 ≢ a → getD o k (pos 0) ≡ getD o₀ k (pos 0)
 
 module _ (e : List ℤ) (list : List ℕ) (n i a : ℕ) (p : Places list n) (at : getD list a 0 ≡ i) (h : a < n) where
-  pub storing-begin : (m : ℕ) → Seen m i e → (o : List ℤ) → Storing (edgeAt e list n) list n a m o o
+  pub storing-begin : (m : ℕ) → MaskShows m i e → (o : List ℤ) → Storing (edgeAt e list n) list n a m o o
   storing-begin m s o = record { within = λ z b l g. z b l ∙ sym (none b l g (decLt b n)); others = λ k d. refl }
     where
       none : (b : ℕ) → b < 64 → (b < n → bit m (getD list b 0) ≡ false) → Dec (b < n) → edgeAt e list n (64 * a + b) ≡ pos 0

@@ -31,8 +31,8 @@ pub record Turned (list places : List ℕ) (n : ℕ) : Type 0 where
   pub back : (b : ℕ) → b < n → getD places (getD list b 0) 0 ≡ b
 
 -- the mask m shows the edges of i
-abbrev pub Seen : ℕ → ℕ → List ℤ → Type 0
-Seen m i e = (j : ℕ) → j < 64 → bit m j ≡ not (isZeroZ (getD e (64 * i + j) (pos 0)))
+abbrev pub MaskShows : ℕ → ℕ → List ℤ → Type 0
+MaskShows m i e = (j : ℕ) → j < 64 → bit m j ≡ not (isZeroZ (getD e (64 * i + j) (pos 0)))
 
 -- entry k of each output
 abbrev pub linearAt : List ℤ → List ℕ → ℕ → ℕ → ℤ

@@ -6,7 +6,7 @@ ghost use lib.ListN.{length, getD, replicate};
 ghost use lib.IntN.{pos};
 ghost use Rattle.whole.specs.Words.{tab};
 ghost use Rattle.graph.specs.Shows.{Shows};
-ghost use Rattle.outputs.specs.Out.{rest, activeOf, Places, Turned, Seen, Row, linearAt, edgeAt};
+ghost use Rattle.outputs.specs.Out.{rest, activeOf, Places, Turned, MaskShows, Row, linearAt, edgeAt};
 
 // The decisions that remain, and the place of each among them; 64 for one that does not.
 pub struct Remaining {
@@ -86,7 +86,7 @@ fn write_row(
     a: usize,
 )
     requires { ⌜ (length (now out) ≡ 4096) × (i < 64) × (a < n) × (n ≤ 64) × ((j : ℕ) → j < 64 → getD (now places) j 0 ≤ 64) ⌝ }
-    ensures { λ _. ⌜ ((list : List ℕ) → Places list n → Turned list (now (places .entry)) n → getD list a 0 ≡ i → Seen m i (now (e .entry))
+    ensures { λ _. ⌜ ((list : List ℕ) → Places list n → Turned list (now (places .entry)) n → getD list a 0 ≡ i → MaskShows m i (now (e .entry))
         → Row (edgeAt (now (e .entry)) list n) a (now (out .entry)) (now (out .exit))) ⌝ }
 {
     let mut rest = m;

@@ -13,11 +13,11 @@ use Rattle.reduce.specs.Gives.{Gives}
 use Rattle.write_text.specs.Outcomes.{Fair, replied}
 use Rattle.decimal.specs.Puts.{AtFront}
 use Rattle.write_text.specs.CallLaws.{call-fair, call-replied}
-use Rattle.reply.specs.Shape.{reported}
+use Rattle.reply.specs.Shape.{reported-shape}
 
 module _ {o : Objective} {l e l′ e′ : List ℤ} {r : Reduction} (weights : length l ≡ 64) (cells : length e ≡ 4096) (g : Gives o l e r l′ e′) where
   pub gives-fair : Fair r l′ e′
-  gives-fair = rw (g .reduction, g .linear, g .edges) (call-fair o l e weights cells (reported o))
+  gives-fair = rw (g .reduction, g .linear, g .edges) (call-fair o l e weights cells (reported-shape o))
 
   pub gives-shown : {out out′ : List ℕ} {n : ℕ} → AtFront out (replied r l′ e′) out′ n → AtFront out (reply (given o)) out′ n
-  gives-shown s = rw (g .reduction, g .linear, g .edges, call-replied o l e weights cells (reported o)) at s
+  gives-shown s = rw (g .reduction, g .linear, g .edges, call-replied o l e weights cells (reported-shape o)) at s

@@ -19,5 +19,5 @@ of-fit o fit =
     subst (λ (n : ℕ). Reported n (outcomeOf (ended o))) (ended-n o fit) (outcome-reported (ended o) (ended-room o fit .n) (end-fine o fit .shaped .states-long) (ended-room o fit .steps)
     (steps-narrow (o .n) (statesFrom (o .n) (o .fixings)) (endSteps o) (end-taken o fit)))
 
-pub reported : (o : Objective) → reduceRefusal o 64 4096 ≡ 0 → Reported (o .n) (outcome o)
-reported o h = of-fit o (accept o 64 4096 h .fit)
+pub reported-shape : (o : Objective) → reduceRefusal o 64 4096 ≡ 0 → Reported (o .n) (outcome o)
+reported-shape o h = of-fit o (accept o 64 4096 h .fit)

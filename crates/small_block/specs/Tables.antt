@@ -18,25 +18,25 @@ use Rattle.rules.specs.SmallBlock.{boundary}
 use Rattle.cost_laws.specs.Growth.{Network}
 use Rattle.graph.specs.NearLaws.{there}
 use Rattle.graph.specs.Shows.{Shows}
-use Rattle.graph.specs.ShowsLaws.{cell, isEdge, these-upto}
+use Rattle.graph.specs.ShowsLaws.{edgeCell, isEdge, these-upto}
 use Rattle.small_block.specs.ByMasks.{nearBy}
 
 -- ---- the neighbours
 module _ {n : ℕ} {e : List ℤ} {masks : List ℕ} (w : Shows n e masks) where
   -- past the last decision there is no mask and no edge
-  bits-any : (i j : ℕ) → j < 64 → bit (getD masks i 0) j ≡ isEdge (cell e i j)
+  bits-any : (i j : ℕ) → j < 64 → bit (getD masks i 0) j ≡ isEdge (edgeCell e i j)
   bits-any i j b = go (decLt i 64)
     where
-      go : Dec (i < 64) → bit (getD masks i 0) j ≡ isEdge (cell e i j)
+      go : Dec (i < 64) → bit (getD masks i 0) j ≡ isEdge (edgeCell e i j)
       go (yes l) = w .bits i j l b
       go (no l) =
           ap (λ (z : ℕ). bit z j) (List·getD-eq-default masks 0 (omega (arith, w .long))) ∙ bit-none j
           ∙ sym (ap isEdge (List·getD-eq-default e (pos 0) (omega (arith, w .edges-long))))
 
-  none-any : (i j : ℕ) → j < 64 → n ≤ j → isEdge (cell e i j) ≡ false
+  none-any : (i j : ℕ) → j < 64 → n ≤ j → isEdge (edgeCell e i j) ≡ false
   none-any i j b h = go (decLt i 64)
     where
-      go : Dec (i < 64) → isEdge (cell e i j) ≡ false
+      go : Dec (i < 64) → isEdge (edgeCell e i j) ≡ false
       go (yes l) = ap isEdge (w .none i j l b h)
       go (no l) = ap isEdge (List·getD-eq-default e (pos 0) (omega (arith, w .edges-long)))
 

@@ -24,7 +24,7 @@ use Rattle.take.specs.declared.Taken.{Taken}
 
 -- the mask of i shows its neighbours
 pub mask-around : (f : Frame) (w : Arrays) (i : ℕ) → Ready f w i → these (getD (w .masks) i 0) ≡ neighbours (graphAt f w) i
-mask-around f w i r = graph.shown (f .n) (w .edges) (w .masks) (r .shown) (r .few) (f .constant) (w .linear) (w .states) i (r .below)
+mask-around f w i r = graph.shown-neighbours (f .n) (w .edges) (w .masks) (r .shown) (r .few) (f .constant) (w .linear) (w .states) i (r .below)
 
 module _ (v : run.Way) (i : ℕ) (g g′ : Graph) (r : Taken) where
   -- the graph changes, and a step is made

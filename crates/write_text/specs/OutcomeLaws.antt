@@ -57,18 +57,18 @@ fair-moderate r l e f = record {
 }
 
 -- the decisions that remain of what is outcomeIn
-abbrev pub left : Reduction → List ℕ
-left r = remainingOf (statesOf (r .«record»))
+abbrev pub remainingIn : Reduction → List ℕ
+remainingIn r = remainingOf (statesOf (r .«record»))
 
 -- the four parts of what is outcomeIn fit the buffer
 abbrev pub Enough : Reduction → List ℤ → List ℤ → Type 0
-Enough r l e = length (opening (r .«record» .constant) (left r) (take (length (left r)) l)) + length (edgeLines 0 e) + length (stepLines (stepsOf (r .«record»))) + length (closing (r .units) (r .complete)) ≤ room
+Enough r l e = length (opening (r .«record» .constant) (remainingIn r) (take (length (remainingIn r)) l)) + length (edgeLines 0 e) + length (stepLines (stepsOf (r .«record»))) + length (closing (r .units) (r .complete)) ≤ room
 
 pub fair-room : (r : Reduction) (l e : List ℤ) → Fair r l e → Enough r l e
 unfolding outcomeIn
 fair-room r l e f = omega (arith, simp length-append at (rw (written-parts (outcomeIn r l e)) at (written-most (outcomeIn r l e) (fair-moderate r l e f))))
 
-pub parts-in : (r : Reduction) (l e : List ℤ) → written (outcomeIn r l e) ≡ opening (r .«record» .constant) (left r) (take (length (left r)) l) ++ edgeLines 0 e ++ stepLines (stepsOf (r .«record»)) ++ closing (r .units) (r .complete)
+pub parts-in : (r : Reduction) (l e : List ℤ) → written (outcomeIn r l e) ≡ opening (r .«record» .constant) (remainingIn r) (take (length (remainingIn r)) l) ++ edgeLines 0 e ++ stepLines (stepsOf (r .«record»)) ++ closing (r .units) (r .complete)
 unfolding outcomeIn
 parts-in r l e = written-parts (outcomeIn r l e)
 

@@ -2,7 +2,7 @@ use Rattle.whole.specs.Parts.{∣_∣}
 use Rattle.whole.specs.Words.{mem}
 use Rattle.whole.specs.Masks.{these}
 use Rattle.dominant_edge.proofs.Giving.{minus, minus-fits, mask-inside, row-small, row-gone, by-turning, by-moving, step-by}
-use Rattle.dominant_edge.specs.Answer.{Gone}
+use Rattle.dominant_edge.specs.Answer.{WasNear}
 use Rattle.whole.specs.Fits.{read, sum-fits}
 use Rattle.rules.specs.Graph.{Graph, lin, edge, dropTo}
 use Rattle.rules.specs.DominantEdge.{positive}
@@ -67,7 +67,7 @@ row c = copied c .row-of .result
 row-is-small : (c : tie.After-drop-to) → Small 2199023255552 (row c)
 row-is-small c = let s = start c in row-small (before s) (s .args .i) (64 - s .args .f .n) (row c) (copied c .row-of .ensures) (s .pre .3 .edges)
 
-gone : (c : tie.After-drop-to) → Gone (row c) (start c .args .m) (before (start c)) (start c .args .i)
+gone : (c : tie.After-drop-to) → WasNear (row c) (start c .args .m) (before (start c)) (start c .args .i)
 gone c = let s = start c in row-gone (before s) (s .args .i) (64 - s .args .f .n) (row c) (copied c .row-of .ensures) (s .args .m) (s .pre .4)
 
 inside : (c : tie.After-drop-to) (t : ℕ) → mem t (these (start c .args .m)) ≡ true → t < start c .args .f .n

@@ -1,6 +1,6 @@
 use Rattle.whole.specs.Parts.{∣_∣}
 use Rattle.dominant_edge.proofs.Finding.{first-passes, first-fails, first-end, test-is}
-use Rattle.dominant_edge.specs.Answer.{Seen, testOf, answerOf, dominantOf}
+use Rattle.dominant_edge.specs.Answer.{MatchesAt, testOf, answerOf, dominantOf}
 use Rattle.dominant_edge.specs.declared.Test.{Test}
 use Rattle.dominant_edge.specs.declared.Dominant.the-variants.{Neighbour}
 use Rattle.rules.specs.DominantEdge.{weak, dominates, first, dominant}
@@ -23,7 +23,7 @@ use Rattle.dominant_edge.proofs.dominant_neighbour.Tie as tie
 
 abbrev Inv-loop : tie.InvT-loop
 Inv-loop edges a m i lo hi rest₀ rest =
-    (rest < 2 ^ 64) × ((g : Graph) → Seen (toZ w64 a) m i edges g → first (dominates g i) (these m) ≡ first (dominates g i) (these rest))
+    (rest < 2 ^ 64) × ((g : Graph) → MatchesAt (toZ w64 a) m i edges g → first (dominates g i) (these m) ≡ first (dominates g i) (these rest))
 
 abbrev μ-loop : tie.MeasureT-loop
 μ-loop edges a m i lo hi rest₀ rest = rest
@@ -82,7 +82,7 @@ test-edge-requires : tie.Need-test-edge-requires Inv-loop μ-loop
 test-edge-requires c κs = rw (low-read c, high-read c, weight-read c) (low-small c, high-small c, weight-small c)
 
 -- the test at hand is the rules' of the neighbour at hand
-tested : (c : tie.After-test-edge Inv-loop μ-loop) (g : Graph) → let s = start (c .before) in Seen (toZ w64 (ofZ w64 (s .args .a))) (s .args .m) (s .args .i) (now (s .args .edges)) g
+tested : (c : tie.After-test-edge Inv-loop μ-loop) (g : Graph) → let s = start (c .before) in MatchesAt (toZ w64 (ofZ w64 (s .args .a))) (s .args .m) (s .args .i) (now (s .args .edges)) g
     → (c .test-edge .result .passes ≡ dominates g (s .args .i) (at (c .before))) × (c .test-edge .result .weak ≡ weak g (s .args .i) (at (c .before)))
 tested c g seen =
     let d = c .before in
@@ -93,7 +93,7 @@ tested c g seen =
     (ap (λ (x : Test). x .passes) e ∙ t .0, ap (λ (x : Test). x .weak) e ∙ t .1)
 
 -- the weight is kept and read back
-saw : (s : tie.Start Inv-loop μ-loop) (g : Graph) → Seen (s .args .a) (s .args .m) (s .args .i) (now (s .args .edges)) g → Seen (toZ w64 (ofZ w64 (s .args .a))) (s .args .m) (s .args .i) (now (s .args .edges)) g
+saw : (s : tie.Start Inv-loop μ-loop) (g : Graph) → MatchesAt (s .args .a) (s .args .m) (s .args .i) (now (s .args .edges)) g → MatchesAt (toZ w64 (ofZ w64 (s .args .a))) (s .args .m) (s .args .i) (now (s .args .edges)) g
 saw s g seen = record { weight = seen .weight ∙ sym (rd (s .fits .a)); around = seen .around; edges = seen .edges }
 
 returns : tie.Need-returns Inv-loop μ-loop

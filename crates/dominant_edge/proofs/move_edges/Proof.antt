@@ -1,4 +1,4 @@
-use Rattle.dominant_edge.specs.Answer.{Gone}
+use Rattle.dominant_edge.specs.Answer.{WasNear}
 use Rattle.dominant_edge.proofs.Giving.{move-cons, move-none, Keeps, keeps-begin, keeps-same, keeps-gain, at, weight, at-low, weight-small, weight-read, edge-fits, gives, passes-by}
 use Rattle.whole.specs.Masks.{these, these-end as ended, rest-less}
 use Rattle.rules.specs.DominantEdge.{move}
@@ -17,7 +17,7 @@ use Rattle.dominant_edge.proofs.move_edges.Tie as tie
 abbrev Inv-loop : tie.InvT-loop
 Inv-loop edges₀ masks₀ row m j rest₀ edges masks rest =
     Keeps row m j rest edges₀ masks₀ edges masks
-    × ((old : Graph) (i : ℕ) → Gone row m old i → (n : ℕ) (b : ℤ) (l : List ℤ) (ss : List ℕ) → move old i j (these m) (graph n b l edges₀ ss) ≡ move old i j (these rest) (graph n b l edges ss))
+    × ((old : Graph) (i : ℕ) → WasNear row m old i → (n : ℕ) (b : ℤ) (l : List ℤ) (ss : List ℕ) → move old i j (these m) (graph n b l edges₀ ss) ≡ move old i j (these rest) (graph n b l edges ss))
 
 abbrev μ-loop : tie.MeasureT-loop
 μ-loop edges₀ masks₀ row m j rest₀ edges masks rest = rest

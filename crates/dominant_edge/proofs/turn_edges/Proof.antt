@@ -1,4 +1,4 @@
-use Rattle.dominant_edge.specs.Answer.{Gone}
+use Rattle.dominant_edge.specs.Answer.{WasNear}
 use Rattle.dominant_edge.proofs.Giving.{turned-by, turn-cons, turn-none, Keeps, keeps-begin, keeps-same, keeps-gain, at, weight, at-low, at-in, still, other, weight-small, weight-read, edge-fits, gives, passes-by, minus, minus-fits}
 use Rattle.whole.specs.Masks.{these, these-end as ended, rest-less}
 use Rattle.rules.specs.DominantEdge.{turn}
@@ -22,7 +22,7 @@ use Rattle.dominant_edge.proofs.turn_edges.Tie as tie
 abbrev Inv-loop : tie.InvT-loop
 Inv-loop lin₀ edges₀ masks₀ row m j rest₀ lin edges masks rest =
     Keeps row m j rest edges₀ masks₀ edges masks × ((t : ℕ) → mem t (these rest) ≡ true → getD lin t (pos 0) ≡ getD lin₀ t (pos 0))
-    × ((old : Graph) (i : ℕ) → Gone row m old i → (n : ℕ) (b : ℤ) (ss : List ℕ) → turn old i j (these m) (graph n b lin₀ edges₀ ss) ≡ turn old i j (these rest) (graph n b lin edges ss))
+    × ((old : Graph) (i : ℕ) → WasNear row m old i → (n : ℕ) (b : ℤ) (ss : List ℕ) → turn old i j (these m) (graph n b lin₀ edges₀ ss) ≡ turn old i j (these rest) (graph n b lin edges ss))
 
 abbrev μ-loop : tie.MeasureT-loop
 μ-loop lin₀ edges₀ masks₀ row m j rest₀ lin edges masks rest = rest

@@ -1,5 +1,5 @@
 use Rattle.low_degree.proofs.Laws.{bits-more, bits-same, bits-end}
-use Rattle.low_degree.specs.Table.{choicesOf}
+use Rattle.low_degree.specs.Table.{choiceBits}
 use Rattle.whole.specs.Words.{bitsFrom}
 use Rattle.whole.specs.Ints.{rd}
 use borrow.Author.Needs.{needs, sfits-of}
@@ -47,7 +47,7 @@ loop-again c =
     (c .if1 .came)
 
 returns : tie.Need-returns Inv-loop μ-loop
-unfolding choicesOf
+unfolding choiceBits
 returns c =
     let l = c .before .loop in
     let s = c .before .before in

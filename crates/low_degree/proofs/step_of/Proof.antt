@@ -1,4 +1,4 @@
-use Rattle.low_degree.specs.Table.{stepFrom, choicesOf}
+use Rattle.low_degree.specs.Table.{stepFrom, choiceBits}
 use lib.Pow.{pow-mono}
 use mathlib.Core.Path.{ap, _∙_}
 use native.Mathlib.Omega.{arith}
@@ -14,7 +14,7 @@ returns : tie.Need-returns
 unfolding stepFrom
 returns c =
     let a = c .before .before .before .args in
-    rw (c .choices .ensures ∙ ap (choicesOf (a .deltas)) (c .before .masks .ensures))
+    rw (c .choices .ensures ∙ ap (choiceBits (a .deltas)) (c .before .masks .ensures))
 
 pub step-of-spec : {M : Type 1} → statement M
 step-of-spec =

@@ -12,7 +12,7 @@ use lib.IntN.{pos}
 use lib.ListN.{length, getD, length-set}
 use Rattle.whole.specs.Ints.{rd}
 use Rattle.whole.specs.Masks.{Turn, turn}
-use Rattle.outputs.specs.Out.{Places, Turned, Seen, edgeAt}
+use Rattle.outputs.specs.Out.{Places, Turned, MaskShows, edgeAt}
 use Rattle.outputs.proofs.Rows.{Storing, storing-begin, storing-more, storing-less, storing-end}
 use Rattle.outputs.proofs.write_row.Statement.{statement}
 use Rattle.outputs.proofs.write_row.Tie as tie
@@ -20,7 +20,7 @@ use Rattle.outputs.proofs.write_row.Tie as tie
 abbrev Inv-loop : tie.InvT-loop
 Inv-loop out₀ e places n m i a rest₀ out rest =
     (rest < 2 ^ 64) × (length out ≡ length out₀)
-    × ((list : List ℕ) → Places list n → Turned list places n → getD list a 0 ≡ i → Seen m i e → Storing (edgeAt e list n) list n a rest out₀ out)
+    × ((list : List ℕ) → Places list n → Turned list places n → getD list a 0 ≡ i → MaskShows m i e → Storing (edgeAt e list n) list n a rest out₀ out)
 
 abbrev μ-loop : tie.MeasureT-loop
 μ-loop out₀ e places n m i a rest₀ out rest = rest

@@ -13,7 +13,7 @@ use Rattle.rules.specs.Record.{statesOf}
 use Rattle.decimal.specs.Puts.{_then_, Wrote, at-front}
 use Rattle.write_text.specs.Outcomes.{opening}
 use Rattle.write_text.specs.WriteLaws.{closing-length}
-use Rattle.write_text.specs.OutcomeLaws.{left, Enough, fair-room, parts-in}
+use Rattle.write_text.specs.OutcomeLaws.{remainingIn, Enough, fair-room, parts-in}
 use Rattle.write_text.proofs.put_result.Statement.{statement}
 use Rattle.write_text.proofs.put_result.Tie as tie
 
@@ -26,14 +26,14 @@ listed-length c =
     let h : length (c .remaining .result .list) ≡ 64 = search needs in
     sym (length-take-le (c .remaining .result .len) (c .remaining .result .list) (omega (arith, c .remaining .ensures .1)))
 
-rest : (c : tie.After-remaining) → take (c .remaining .result .len) (c .remaining .result .list) ≡ left (start c .args .reduction)
+rest : (c : tie.After-remaining) → take (c .remaining .result .len) (c .remaining .result .list) ≡ remainingIn (start c .args .reduction)
 unfolding statesOf
 rest c = c .remaining .ensures .0
 
 same-opening : {k k′ : ℤ} {xs ys : List ℕ} {n m : ℕ} (l : List ℤ) → k′ ≡ k → xs ≡ ys → n ≡ m → opening k′ xs (take n l) ≡ opening k ys (take m l)
 same-opening l e f g = rw (e, f, g)
 
-opened : (c : tie.After-remaining) → opening (toZ w64 (ofZ w64 (start c .args .reduction .«record» .constant))) (take (c .remaining .result .len) (c .remaining .result .list)) (take (c .remaining .result .len) (start c .args .linear .now)) ≡ opening (start c .args .reduction .«record» .constant) (left (start c .args .reduction)) (take (length (left (start c .args .reduction))) (start c .args .linear .now))
+opened : (c : tie.After-remaining) → opening (toZ w64 (ofZ w64 (start c .args .reduction .«record» .constant))) (take (c .remaining .result .len) (c .remaining .result .list)) (take (c .remaining .result .len) (start c .args .linear .now)) ≡ opening (start c .args .reduction .«record» .constant) (remainingIn (start c .args .reduction)) (take (length (remainingIn (start c .args .reduction))) (start c .args .linear .now))
 opened c =
     let f : SFits w64 (start c .args .reduction .«record» .constant) = search needs in
     same-opening (start c .args .linear .now) (rd f) (rest c) (listed-length c ∙ ap length (rest c))

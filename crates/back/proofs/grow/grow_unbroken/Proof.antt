@@ -9,7 +9,7 @@ use Rattle.rules.specs.Refuse.{firstRow, bytesRows, answerRows}
 use Rattle.rules.specs.Call.{grown}
 use Rattle.whole.specs.Lists.{length-mapped}
 use Rattle.back.specs.SoundRecord.{few-decisions, few-steps, grown-front}
-use Rattle.back.specs.RefusalLaws.{refused, accepted}
+use Rattle.back.specs.RefusalLaws.{answers-refused, answers-accepted}
 use Rattle.accepted_laws.specs.Rows.{bytes-lengths}
 use Rattle.back.proofs.grow.grow_unbroken.Statement.{statement}
 use Rattle.back.proofs.grow.grow_unbroken.Tie as tie
@@ -36,7 +36,7 @@ remaining-requires c κs = few-decisions (c .before .before .before .before .arg
 returns : tie.Need-returns
 returns c =
     let a = c .before .before .before .before .before .before .before .args in
-    refused _ (c .before .bytes-refusal .result) (grown (a .«record») (now (a .answer))) (now (a .plan)) (asked (c .before)) (c .if1 .taken)
+    answers-refused _ (c .before .bytes-refusal .result) (grown (a .«record») (now (a .answer))) (now (a .plan)) (asked (c .before)) (c .if1 .taken)
 
 placed-requires : tie.Need-placed-requires
 placed-requires c κs = let s = c .before .before .before .before .before .before .before .before in few-decisions (s .args .«record») (s .pre)
@@ -59,7 +59,7 @@ returns-2 c =
     let r = s .args .«record» in
     let answer = now (s .args .answer) in
     let plan = now (s .args .plan) in
-    accepted _ (grown r answer) plan _ (sym (asked (e .before)) ∙ e .if1 .left)
+    answers-accepted _ (grown r answer) plan _ (sym (asked (e .before)) ∙ e .if1 .left)
     (w .write-front .ensures ∙ ap (λ (n : ℕ). take n (p .play-back .result)) (long e) ∙ grown-front r (s .pre) (steps-long s) answer _ (p .play-back .result) (p .before .before .placed .ensures) (p .play-back .ensures))
 
 pub grow-unbroken-spec : {M : Type 1} → statement M

@@ -7,7 +7,7 @@ use lib.ListN.{length, take}
 use Rattle.rules.specs.Record.{statesOf}
 use Rattle.rules.specs.Call.{projected}
 use Rattle.back.specs.SoundRecord.{few-decisions}
-use Rattle.back.specs.RefusalLaws.{refused, accepted}
+use Rattle.back.specs.RefusalLaws.{answers-refused, answers-accepted}
 use Rattle.accepted_laws.specs.Rows.{bytes-lengths}
 use Rattle.back.proofs.project.project_unbroken.Statement.{statement}
 use Rattle.back.proofs.project.project_unbroken.Tie as tie
@@ -21,7 +21,7 @@ long c =
 returns : tie.Need-returns
 returns c =
     let a = c .before .before .before .before .before .args in
-    refused _ (c .before .bytes-refusal .result) (projected (a .«record») (now (a .plan))) (now (a .out)) (c .before .bytes-refusal .ensures) (c .if1 .taken)
+    answers-refused _ (c .before .bytes-refusal .result) (projected (a .«record») (now (a .plan))) (now (a .out)) (c .before .bytes-refusal .ensures) (c .if1 .taken)
 
 projected-requires : tie.Need-projected-requires
 projected-requires c κs = let s = c .before .before .before .before .before .before in few-decisions (s .args .«record») (s .pre)
@@ -39,7 +39,7 @@ returns-2 c =
     let p = w .before .before in
     let e = p .before .before in
     let a = e .before .before .before .before .before .args in
-    accepted _ (projected (a .«record») (now (a .plan))) (now (a .out)) _ (sym (e .before .bytes-refusal .ensures) ∙ e .if1 .left)
+    answers-accepted _ (projected (a .«record») (now (a .plan))) (now (a .out)) _ (sym (e .before .bytes-refusal .ensures) ∙ e .if1 .left)
     (w .write-front .ensures ∙ ap (λ (n : ℕ). take n (p .projected .result)) (long e) ∙ p .projected .ensures)
 
 pub project-unbroken-spec : {M : Type 1} → statement M

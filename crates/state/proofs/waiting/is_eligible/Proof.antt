@@ -4,7 +4,7 @@ use lib.ListN.{length}
 use borrow.Author.Needs.{needs}
 use denote.Ref.{now}
 use Rattle.rules.specs.Graph.{graph}
-use Rattle.graph.specs.ShowsLaws.{shown}
+use Rattle.graph.specs.ShowsLaws.{shown-neighbours}
 use Rattle.state.specs.JoinsLaws.{by-dominant, by-degree, by-none}
 use Rattle.state.proofs.waiting.is_eligible.Statement.{statement}
 use Rattle.state.proofs.waiting.is_eligible.Tie as tie
@@ -17,7 +17,7 @@ returns-2 c = λ n k l e ss f s.
     let two = c .before .before in
     let z = two .before .before in
     let a = z .args in
-    ap₂ leb (c .before .degree .ensures ∙ ap length (shown n e (now (a .masks)) s f k l ss (a .i) (z .pre))) (c .highest .ensures)
+    ap₂ leb (c .before .degree .ensures ∙ ap length (shown-neighbours n e (now (a .masks)) s f k l ss (a .i) (z .pre))) (c .highest .ensures)
     ∙ by-degree (a .options) (graph n k l e ss) (a .i) (two .before .if1 .left) (two .if2 .taken)
 
 returns-3 : tie.Need-returns-3

@@ -15,7 +15,7 @@ use Rattle.rules.specs.DominantEdge.{nothing}
 use Rattle.graph.specs.Near.{nearAt}
 use Rattle.graph.specs.NearLaws.{near-count}
 use Rattle.graph.specs.Shows.{Shows}
-use Rattle.graph.specs.ShowsLaws.{shown}
+use Rattle.graph.specs.ShowsLaws.{shown-neighbours}
 use Rattle.dominant_edge.specs.Answer.{answerOf}
 use Rattle.dominant_edge.specs.AnswerLaws.{answer-none, answer-at}
 use Rattle.take.specs.Ways.{dominantIf}
@@ -63,7 +63,7 @@ module _ (d : tie.After-dominant-if) (n : ℕ) (k : ℤ) (f : n ≤ 64) (h : Sho
   found : d .dominant-if .result ≡ answerOf (whole (start d) n k) (start d .args .i) (dominantIf (start d .args .options) (whole (start d) n k) (start d .args .i))
   found =
       let a = start d .args in
-      d .dominant-if .ensures (whole (start d) n k) refl refl (shown n (now (a .edges)) (now (a .masks)) h f k (now (a .lin)) (now (a .states)) (a .i) (start d .pre .0))
+      d .dominant-if .ensures (whole (start d) n k) refl refl (shown-neighbours n (now (a .edges)) (now (a .masks)) h f k (now (a .lin)) (now (a .states)) (a .i) (start d .pre .0))
 
   high : (lowDegree (start d .args .options) && leb (degree (whole (start d) n k) (start d .args .i)) 2) ≡ false
   high = by-low (start d) n k e (sym (d .before .before .before .is-low .ensures) ∙ d .before .before .if2 .left)
