@@ -30,11 +30,11 @@ use Rattle.block_elimination.specs.Block.{Lowest, Beside, outsidePair, m
 use Rattle.block_elimination.specs.BlockLaws.{steps-are, lowest-are, within-drop-all}
 
 module _ {g : Graph} {order : List ℕ} {count : ℕ} (w : Eliminable g order count) where
-  pub members-few : count ≤ 8
-  members-few = omega (arith, w .block .eight, length-take count order, w .long)
+  pub block-few : count ≤ 8
+  block-few = omega (arith, w .block .eight, length-take count order, w .long)
 
   members-size : length (take count order) ≡ count
-  members-size = length-take-le count order (omega (arith, members-few, w .long))
+  members-size = length-take-le count order (omega (arith, block-few, w .long))
 
   member-at : (k : ℕ) → k < count → getD order k 0 ≡ getD (take count order) k 0
   member-at k l = sym (getD-take count order k 0 l)
@@ -43,7 +43,7 @@ module _ {g : Graph} {order : List ℕ} {count : ℕ} (w : Eliminable g order co
   members-low k l = omega (arith, member-at k l, low-at (g .n) (take count order) k (w .block .apart) (w .few))
 
   pub members-listed : Listed order count
-  members-listed = record { long = w .long; few = members-few; low = members-low }
+  members-listed = record { long = w .long; few = block-few; low = members-low }
 
   module _ {out : List ℕ} {width : ℕ} (o : Boundary g (take count order) out width) where
     pub out-narrow : width ≤ 2
@@ -88,8 +88,8 @@ module _ {g : Graph} {order : List ℕ} {count : ℕ} {out : List ℕ} {width fi
     second = ap (λ (xs : List ℕ). getD xs 1 0) (near-is ∙ sym (w .outside .is)) ∙ sym (w .two);
   }
 
-  pub out-both : width ≡ 2 → (first < g .n) × (second < g .n)
-  out-both e = (omega (arith, w .one, out-inside (w .block) (w .outside) 0 (omega arith)), omega (arith, w .two, out-inside (w .block) (w .outside) 1 (omega arith)))
+  pub both-outside : width ≡ 2 → (first < g .n) × (second < g .n)
+  both-outside e = (omega (arith, w .one, out-inside (w .block) (w .outside) 0 (omega arith)), omega (arith, w .two, out-inside (w .block) (w .outside) 1 (omega arith)))
 
   best-are : (masks ≡ tab (bestMask g (take count order)) (2 ^ width) ++ drop (2 ^ width) (replicate 4 0)) × (table ≡ tab (blockTable g (take count order)) (2 ^ width) ++ drop (2 ^ width) (replicate 8 (pos 0)))
   best-are = lowest-are g b (take width out) count (2 ^ width) masks table (w .outside .is) (members-size (w .block)) (w .lowest)

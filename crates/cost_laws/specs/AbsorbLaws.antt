@@ -14,7 +14,7 @@ use Rattle.rules.specs.Graph.{Graph, lin, edge, addConstant, addLinear, addEdge
 use Rattle.rules.specs.Eliminate.{absorb}
 use Rattle.rules.specs.DegreeThree.{moebius}
 use Rattle.cost_laws.specs.Cost.{when}
-use Rattle.cost_laws.specs.CostLaws.{cost, Shaped, base-cost, lin-cost, edge-cost, here, there, elsewhere}
+use Rattle.cost_laws.specs.CostLaws.{cost, Shaped, base-cost, lin-cost, edge-cost, added-here, added-there, elsewhere}
 
 pub shaped-base : (v : ℤ) (g : Graph) → Shaped g → Shaped (addConstant v g)
 unfolding addConstant
@@ -50,7 +50,7 @@ shaped-edge g k l v s lk ll kl = record {
 }
   where
     crossed : edge (addEdge k l v g) k l ≡ edge (addEdge k l v g) l k
-    crossed = here g k l v s lk ll kl ∙ ap (λ (z : ℤ). z +ℤ v) (s .both k l lk ll) ∙ sym (there g k l v s lk ll kl)
+    crossed = added-here g k l v s lk ll kl ∙ ap (λ (z : ℤ). z +ℤ v) (s .both k l lk ll) ∙ sym (added-there g k l v s lk ll kl)
 
     go : (i j : ℕ) → i < g .n → j < g .n → Dec ((i ≡ k) × (j ≡ l)) → Dec ((i ≡ l) × (j ≡ k)) → edge (addEdge k l v g) i j ≡ edge (addEdge k l v g) j i
     go i j li lj (yes p) d = ap₂ (edge (addEdge k l v g)) (p .0) (p .1) ∙ crossed ∙ ap₂ (edge (addEdge k l v g)) (sym (p .1)) (sym (p .0))

@@ -46,18 +46,18 @@ lin-cost g x k v s l =
     (getD-set-same (g .linear) k (lin g k +ℤ v) (pos 0) inside)
 
 module _ (g : Graph) (k l : ℕ) (v : ℤ) (s : Shaped g) (lk : k < g .n) (ll : l < g .n) (kl : k ≢ l) where
-  pub here : edge (addEdge k l v g) k l ≡ edge g k l +ℤ v
+  pub added-here : edge (addEdge k l v g) k l ≡ edge g k l +ℤ v
   unfolding addEdge
-  here =
+  added-here =
       let few : g .n ≤ 64 = s .few in
       let inside : 64 * k + l < length (g .edges) = omega (arith, s .edges-long) in
       getD-set-other (set (g .edges) (64 * k + l) (edge g k l +ℤ v)) (64 * l + k) (64 * k + l) (edge g l k +ℤ v) (pos 0)
       (λ e. kl (row-of k l l k (omega arith) (omega arith) e))
       ∙ getD-set-same (g .edges) (64 * k + l) (edge g k l +ℤ v) (pos 0) inside
 
-  pub there : edge (addEdge k l v g) l k ≡ edge g l k +ℤ v
+  pub added-there : edge (addEdge k l v g) l k ≡ edge g l k +ℤ v
   unfolding addEdge
-  there =
+  added-there =
       let few : g .n ≤ 64 = s .few in
       let inside : 64 * l + k < length (set (g .edges) (64 * k + l) (edge g k l +ℤ v)) = omega (arith, s .edges-long, length-set (g .edges) (64 * k + l) (edge g k l +ℤ v)) in
       getD-set-same (set (g .edges) (64 * k + l) (edge g k l +ℤ v)) (64 * l + k) (edge g l k +ℤ v) (pos 0) inside
@@ -76,10 +76,10 @@ module _ (g : Graph) (k l : ℕ) (v : ℤ) (s : Shaped g) (lk : k < g .n) (ll : 
       go : Dec (l < k) → cost (addEdge k l v g) x ≡ cost g x +ℤ when (x k) (when (x l) v)
       go (yes t) = cost-edge (g .n) (g .constant) x (lin g) (edge g) (edge (addEdge k l v g)) k l v t lk
           (λ i j m r d. elsewhere i j m (omega arith) (λ e. absurd (d e)) (λ e f. omega arith))
-          (λ j r d. elsewhere k j lk (omega arith) (λ e f. d f) (λ e f. kl e)) here
+          (λ j r d. elsewhere k j lk (omega arith) (λ e f. d f) (λ e f. kl e)) added-here
       go (no t) = cost-edge (g .n) (g .constant) x (lin g) (edge g) (edge (addEdge k l v g)) l k v (omega arith) ll
           (λ i j m r d. elsewhere i j m (omega arith) (λ e f. omega arith) (λ e. absurd (d e)))
-          (λ j r d. elsewhere l j ll (omega arith) (λ e f. kl (sym e)) (λ e f. d f)) there
+          (λ j r d. elsewhere l j ll (omega arith) (λ e f. kl (sym e)) (λ e f. d f)) added-there
           ∙ ap (λ (z : ℤ). cost g x +ℤ z) (when-swap (x l) (x k) v)
 
 -- clearing: i's edges below c are gone, and every other cell stands

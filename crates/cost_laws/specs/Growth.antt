@@ -52,9 +52,9 @@ module _ (n : ℕ) (near : ℕ → List ℕ) (net : Network n near) (aside : Lis
   pub regroup : (old new more : List ℕ) (i : ℕ) → (old ++ i ∷ []) ++ (new ++ more) ≡ (old ++ i ∷ new) ++ more
   regroup old new more i = simp append-assoc
 
-  pub turn : (old new : List ℕ) (i : ℕ) → Growing n near aside old (i ∷ new) → Growing n near aside (old ++ i ∷ []) (new ++ fresh near aside (old ++ i ∷ new) i)
+  pub grow-turn : (old new : List ℕ) (i : ℕ) → Growing n near aside old (i ∷ new) → Growing n near aside (old ++ i ∷ []) (new ++ fresh near aside (old ++ i ∷ new) i)
   unfolding mem
-  turn old new i w = record {
+  grow-turn old new i w = record {
     apart = rw (regroup old new (fresh near aside l i) i) (apart-join (w .apart) (apart-those (λ w. not (mem w (aside ++ l))) (net .apart i))
         (λ k m. refuse (mem k (fresh near aside l i)) (λ t. clash m (in-fresh l i k t .2))));
     avoids = λ k m. rw (regroup old new (fresh near aside l i) i) (out-both k l (fresh near aside l i) (w .avoids k m)
@@ -111,18 +111,18 @@ module _ (n : ℕ) (near : ℕ → List ℕ) (net : Network n near) (aside : Lis
   grown (suc f) old [] w h = finished old w
   grown (suc f) old (i ∷ new) w h =
       widen old new i (grow near f aside (old ++ i ∷ []) (new ++ fresh near aside (old ++ i ∷ new) i)) w
-      (grown f (old ++ i ∷ []) (new ++ fresh near aside (old ++ i ∷ new) i) (turn old new i w) (omega (arith, length-append old (i ∷ []))))
+      (grown f (old ++ i ∷ []) (new ++ fresh near aside (old ++ i ∷ new) i) (grow-turn old new i w) (omega (arith, length-append old (i ∷ []))))
 
-  pub begins : (s : ℕ) → s < n → mem s aside ≡ false → Growing n near aside [] (s ∷ [])
+  pub grow-begins : (s : ℕ) → s < n → mem s aside ≡ false → Growing n near aside [] (s ∷ [])
   unfolding mem
-  begins s l m = record {
+  grow-begins s l m = record {
     apart = one l refl none;
     avoids = λ k h. refuse (mem k (s ∷ [])) (λ t. clash h (ap (λ (j : ℕ). mem j aside) (in-single k s t) ∙ m));
     through = λ i j h li e q. nobody i h;
   }
 
   pub component-grown : (s : ℕ) → s < n → mem s aside ≡ false → Grown n near aside (s ∷ []) (component near aside s)
-  component-grown s l m = grown 64 [] (s ∷ []) (begins s l m) (omega (arith, net .few))
+  component-grown s l m = grown 64 [] (s ∷ []) (grow-begins s l m) (omega (arith, net .few))
 
   -- what is neither set aside nor in a component: no edge leads into it
   outside-closed : (v : ℕ) → v < n → mem v aside ≡ false → Closed n near aside (λ k. not (mem k (aside ++ component near aside v)))

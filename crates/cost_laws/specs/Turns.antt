@@ -10,7 +10,7 @@ use lib.ListN.{length, length-append}
 use Rattle.whole.specs.Words.{mem}
 use Rattle.whole.specs.Pigeon.{pigeon}
 use Rattle.rules.specs.SmallBlock.{fresh, grow, component}
-use Rattle.cost_laws.specs.Growth.{Network, Growing, turn, begins}
+use Rattle.cost_laws.specs.Growth.{Network, Growing, grow-turn, grow-begins}
 
 -- "Each turn goes through one decision, and none twice, so 64 turns are enough": more turns change nothing
 -- nothing is new: the turns that are left do nothing
@@ -26,7 +26,7 @@ module _ (n : ℕ) (near : ℕ → List ℕ) (net : Network n near) (aside : Lis
   more-turns zero old (i ∷ new) w h = absurd (omega (arith, pigeon n (w .apart), length-append old (i ∷ new)))
   more-turns (suc f) old [] w h = idle-turns near aside (suc f + more) old
   more-turns (suc f) old (i ∷ new) w h =
-      rw suc-add (more-turns f (old ++ i ∷ []) (new ++ fresh near aside (old ++ i ∷ new) i) (turn n near net aside old new i w) (omega (arith, length-append old (i ∷ []))))
+      rw suc-add (more-turns f (old ++ i ∷ []) (new ++ fresh near aside (old ++ i ∷ new) i) (grow-turn n near net aside old new i w) (omega (arith, length-append old (i ∷ []))))
 
   pub component-turns : (s : ℕ) → s < n → mem s aside ≡ false → grow near (64 + more) aside [] (s ∷ []) ≡ component near aside s
-  component-turns s l m = more-turns 64 [] (s ∷ []) (begins n near net aside s l m) (omega (arith, net .few))
+  component-turns s l m = more-turns 64 [] (s ∷ []) (grow-begins n near net aside s l m) (omega (arith, net .few))

@@ -23,8 +23,8 @@ use Rattle.outputs.specs.declared.Remaining.{Remaining}
 
 module _ (p : ℕ → Bool) (n i : ℕ) where
   -- a decision joins the list
-  pub listed-more : (l : List ℕ) (m : ℕ) (all : List ℕ) → m < length l → i < n → p i ≡ true → take m l ++ those p (from i (n - i)) ≡ all → take (m + 1) (set l m i) ++ those p (from (i + 1) (n - (i + 1))) ≡ all
-  listed-more l m all h k e d =
+  pub list-grown : (l : List ℕ) (m : ℕ) (all : List ℕ) → m < length l → i < n → p i ≡ true → take m l ++ those p (from i (n - i)) ≡ all → take (m + 1) (set l m i) ++ those p (from (i + 1) (n - (i + 1))) ≡ all
+  list-grown l m all h k e d =
       store-more l m i (those p (from (i + 1) (n - (i + 1)))) h ∙ ap (λ (t : List ℕ). take m l ++ t) (sym (rest-more p n i k e)) ∙ d
 
 pub zero-at : (n k : ℕ) → getD (replicate n 0) k 0 < 64

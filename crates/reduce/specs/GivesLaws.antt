@@ -70,9 +70,9 @@ module _ (o : Objective) (fit : Fit o) (r : Ended) (w : Arrays) (k : Ends (rule.
         let ss = ap (λ (g : Graph). g .states) (k .holds .graph) in
         cc (n, c, ss, remaining, k .holds .steps .list, k .holds .steps .count, k .holds .takes, k .holds .blocks, k .complete, k .holds .counted)
 
-    pub done : (z : Reduction) (l′ e′ : List ℤ) → z ≡ reportFrom r (w .states) (m .len) → l′ ≡ tab (linearAt (w .linear) (m .list) (m .len)) 64 → e′ ≡ tab (edgeAt (w .edges) (m .list) (m .len)) 4096 → Done o z l′ e′
+    pub run-done : (z : Reduction) (l′ e′ : List ℤ) → z ≡ reportFrom r (w .states) (m .len) → l′ ≡ tab (linearAt (w .linear) (m .list) (m .len)) 64 → e′ ≡ tab (edgeAt (w .edges) (m .list) (m .len)) 4096 → Done o z l′ e′
     unfolding outcome outcomeOf
-    done z l′ e′ p q s = record {
+    run-done z l′ e′ p q s = record {
       reduction = p ∙ reports;
       linear = q ∙ linear-of (graphIn (r .state) w) m ok listed ∙ ap linearOut (k .holds .graph);
       edges = s ∙ edges-of (graphIn (r .state) w) m ok listed ∙ ap edgeOut (k .holds .graph);

@@ -44,7 +44,7 @@ use Rattle.small_block.specs.ByMasks.{nearBy, blockBy}
 use Rattle.small_block.specs.Seeking.{a-block}
 use Rattle.small_block.specs.Tables.{network-shown}
 use Rattle.block_elimination.specs.Block.{Eliminable}
-use Rattle.block_elimination.specs.Eliminating.{found-eliminable, members-few}
+use Rattle.block_elimination.specs.Eliminating.{found-eliminable, block-few}
 use Rattle.state.specs.Counting.{Countable, counts}
 use Rattle.state.specs.Holds.{Arrays, arrays, graphIn, Holds}
 use Rattle.state.specs.Joins.{Joins}
@@ -61,11 +61,11 @@ use Rattle.run.specs.declared.Reached.{Reached}
 use Rattle.run.specs.declared.Ended.{Ended}
 
 -- ---- a run begins
-pub begins : (budget : ℕ) (opt : Options) (f : Frame) (s : State) (made : Steps) (l e : List ℤ) (m ss : List ℕ) → Started f l e ss → Shows (f .n) e m
+pub course-begins : (budget : ℕ) (opt : Options) (f : Frame) (s : State) (made : Steps) (l e : List ℤ) (m ss : List ℕ) → Started f l e ss → Shows (f .n) e m
     → s ≡ record { frame = f; tally = nothingCounted; takes = 0; blocks = 0 } → StepsKept made []
     → ToPass budget opt (run.run budget opt (run.begin opt (held f l e ss))) (record { state = s; steps = made }) (arrays l e m ss)
 unfolding run.begin
-begins budget opt f s made l e m ss st sh is k = record {
+course-begins budget opt f s made l e m ss st sh is k = record {
   state = run.begin opt (held f l e ss);
   course = record {
     objective = st .objective;
@@ -122,8 +122,8 @@ module _ (budget : ℕ) (opt : Options) (E : run.Ended) (S : run.State) (s : Sta
   searchable = (fine .shaped .few, network-shown (c .holds .shown) (fine .shaped .few) (s .frame .constant) (w .linear) (w .states) (neat-network (graphIn s w) (fine .shaped) (fine .neat)))
 
   -- one unit on
-  pub onward : (T : run.State) (r : State) (more : Steps) (w′ : Arrays) → units S < budget → next opt S ≡ due T → Holds T r more w′ → Course budget opt E T r more w′
-  onward T r more w′ b n h = record {
+  pub course-onward : (T : run.State) (r : State) (more : Steps) (w′ : Arrays) → units S < budget → next opt S ≡ due T → Holds T r more w′ → Course budget opt E T r more w′
+  course-onward T r more w′ b n h = record {
     objective = c .objective;
     fit = c .fit;
     order = next-in-order (start (c .objective)) opt S T n (c .order);
@@ -168,7 +168,7 @@ module _ (budget : ℕ) (opt : Options) (E : run.Ended) (S : run.State) (s : Sta
 
     holding : (made′ : Steps) (X : run.State) → T ≡ X → left ≡ X .graph → StepsKept made′ (X .steps) → plus (S .counted) (counts (t .did)) ≡ X .counted → S .takes + 1 ≡ X .takes → S .blocks ≡ X .blocks
         → Course budget opt E T next-state made′ w′
-    holding made′ X e g st cn tk bl = onward T next-state made′ w′ b (due-take opt S i q front) (subst (λ (Y : run.State). Holds Y next-state made′ w′) (sym e) (record {
+    holding made′ X e g st cn tk bl = course-onward T next-state made′ w′ b (due-take opt S i q front) (subst (λ (Y : run.State). Holds Y next-state made′ w′) (sym e) (record {
       graph = g;
       shown = shown;
       steps = st;
@@ -233,7 +233,7 @@ module _ (budget : ℕ) (opt : Options) (E : run.Ended) (S : run.State) (s : Sta
         let g = graphIn s w in
         let b : List ℕ = take count order in
         let found : findBlock g ≡ members b = sym is ∙ a-block order count some in
-        let size : length b ≡ count = length-take-le count order (omega (arith, members-few block)) in
+        let size : length b ≡ count = length-take-le count order (omega (arith, block-few block)) in
         let tidy = neat-tidy g (fine .shaped) (fine .neat) in
         omega (arith, size, few (actives g) (block .block .apart) (λ k m. let on : active g k ≡ true = found-live g b (fine .shaped) found tidy k m in to-actives g k (fine .inside k on, on)))
 
@@ -241,7 +241,7 @@ module _ (budget : ℕ) (opt : Options) (E : run.Ended) (S : run.State) (s : Sta
     removable u = record {
       block = block;
       shown = c .holds .shown;
-      eight = members-few block;
+      eight = block-few block;
       room = omega (arith, c .holds .steps .count, steps-left, members-active);
       counted = countable u;
       blocks = omega arith;

@@ -10,14 +10,14 @@ use Rattle.whole.specs.Members.{in-those, to-those, some-true}
 use Rattle.rules.specs.SmallBlock.{component, besides, isCut}
 use Rattle.cost_laws.specs.Growth.{Network, free}
 use Rattle.cost_laws.specs.Found.{some-witness}
-use Rattle.search_laws.specs.Paths.{Beside, Parts}
+use Rattle.search_laws.specs.Paths.{OtherNeighbour, Parts}
 use Rattle.search_laws.specs.PathLaws.{reached-path, path-reached}
 
 module _ (n : ℕ) (near : ℕ → List ℕ) (net : Network n near) (removed : List ℕ) (c : ℕ) (lc : c < n) where
-  beside : (u : ℕ) → mem u (besides near removed c) ≡ true → Beside near removed c u
+  beside : (u : ℕ) → mem u (besides near removed c) ≡ true → OtherNeighbour near removed c u
   beside u m = let p = in-those (λ u. not (mem u removed)) u (near c) m in record { neighbour = p .0; stays = off-not (mem u removed) (p .1) }
 
-  listed : (u : ℕ) → Beside near removed c u → mem u (besides near removed c) ≡ true
+  listed : (u : ℕ) → OtherNeighbour near removed c u → mem u (besides near removed c) ≡ true
   listed u b = to-those (λ u. not (mem u removed)) u (near c) (b .neighbour) (not-off (b .stays))
 
   -- v is not reached from u; some neighbour is not

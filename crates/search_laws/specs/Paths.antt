@@ -13,7 +13,7 @@ module _ (near : ℕ → List ℕ) where
     onward : {i k : ℕ} → PathFrom aside s i → mem k (near i) ≡ true → mem k aside ≡ false → PathFrom aside s k
 
   -- u is a neighbour of c, and not the removed one
-  pub record Beside (removed : List ℕ) (c u : ℕ) : Type 0 where
+  pub record OtherNeighbour (removed : List ℕ) (c u : ℕ) : Type 0 where
     pub neighbour : mem u (near c) ≡ true
     pub stays : mem u removed ≡ false
 
@@ -22,6 +22,6 @@ module _ (near : ℕ → List ℕ) where
     pub other : mem c removed ≡ false
     pub one : ℕ
     pub two : ℕ
-    pub first : Beside removed c one
-    pub second : Beside removed c two
+    pub first : OtherNeighbour removed c one
+    pub second : OtherNeighbour removed c two
     pub apart : PathFrom (c ∷ removed) one two → ⊥

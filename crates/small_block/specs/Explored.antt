@@ -13,7 +13,7 @@ use Rattle.whole.specs.Words.{bit, mem}
 use Rattle.rules.specs.SmallBlock.{fresh, grow, component}
 use Rattle.whole.specs.Pigeon.{Apart, pigeon}
 use Rattle.whole.specs.Members.{mem-append}
-use Rattle.cost_laws.specs.Growth.{Network, Growing, turn}
+use Rattle.cost_laws.specs.Growth.{Network, Growing, grow-turn}
 use Rattle.cost_laws.specs.Turns.{idle-turns}
 use Rattle.whole.specs.Masks.{these, without, bit-or, mem-these, these-below, these-less, those-ext}
 use Rattle.whole.specs.Counts.{one-left}
@@ -69,7 +69,7 @@ module _ {near : ℕ → List ℕ} {aside : List ℕ} {seed : ℕ} {l : List ℕ
           subst (λ (xs : List ℕ). Growing 64 near aside xs (drop (suc done) (l ++ more))) old-next
           (subst (λ (ys : List ℕ). Growing 64 near aside (take done l ++ at ∷ []) ys) new-next
           (subst (λ (xs : List ℕ). Growing 64 near aside (take done l ++ at ∷ []) (drop (suc done) l ++ fresh near aside xs at)) parts
-          (turn 64 near net aside (take done l) (drop (suc done) l) at
+          (grow-turn 64 near net aside (take done l) (drop (suc done) l) at
           (subst (λ (ys : List ℕ). Growing 64 near aside (take done l) ys) (drop-cons l done 0 h) (w .growing)))));
       leads =
           w .leads

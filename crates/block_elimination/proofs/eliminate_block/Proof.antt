@@ -11,7 +11,7 @@ use Rattle.graph.specs.Held.{held}
 use Rattle.graph.specs.Shows.{Shows}
 use Rattle.small_block.specs.Tables.{Boundary}
 use Rattle.state.specs.Steps.{StepsKept}
-use Rattle.block_elimination.specs.Eliminating.{Worked, members-few, members-low, members-listed, out-narrow, out-listed, out-beside, out-both, table-fits, block-left, block-grown}
+use Rattle.block_elimination.specs.Eliminating.{Worked, block-few, members-low, members-listed, out-narrow, out-listed, out-beside, both-outside, table-fits, block-left, block-grown}
 use Rattle.block_elimination.proofs.eliminate_block.Statement.{statement}
 use Rattle.block_elimination.proofs.eliminate_block.Tie as tie
 
@@ -22,7 +22,7 @@ before s = held (s .args .f) (now (s .args .lin)) (now (s .args .edges)) (now (s
 boundary-of-requires : tie.Need-boundary-of-requires
 boundary-of-requires c κs =
     let w = c .before .before .pre .0 in
-    (w .long, omega (arith, members-few w), members-low w, refl)
+    (w .long, omega (arith, block-few w), members-low w, refl)
 
 -- the boundary, as the code holds it
 abbrev out : tie.After-boundary-of → List ℕ
@@ -94,7 +94,7 @@ returns c =
     let d = c .before .before .before .before .before in
     let w = worked (q d) in (
       block-left w (after d) _ (dropped d .0) (c .absorb .ensures .0 _),
-      c .absorb .ensures .1 (s (q d) .args .f .n) (out-both w) (dropped d .1),
+      c .absorb .ensures .1 (s (q d) .args .f .n) (both-outside w) (dropped d .1),
       λ ss h. subst (λ (more : List rule.Step). StepsKept (steps d .block-steps .result) (ss ++ more)) (block-grown w) (steps d .block-steps .ensures ss h),
     )
 

@@ -1,4 +1,4 @@
-use Rattle.outputs.specs.OutLaws.{Listing, listing-begin, listing-same, listing-more, zero-at, those-same, those-end, listed-more}
+use Rattle.outputs.specs.OutLaws.{Listing, listing-begin, listing-same, listing-more, zero-at, those-same, those-end, list-grown}
 use Rattle.whole.specs.Lists.{below-set}
 use Rattle.outputs.specs.Out.{rest}
 use Rattle.whole.specs.Words.{those, from}
@@ -46,7 +46,7 @@ loop-again c =
       length-set (l .r .list) (l .r .len) (l .i) ∙ l .inv .2,
       below-set 64 (l .r .list) (l .r .len) (l .i) room (omega arith) (l .inv .3),
       listing-more (l .i) (l .r .list) (l .r .places) (l .r .len) (l .inv .4) (l .inv .2) (l .inv .1) (omega arith),
-      listed-more (two ss) n (l .i) (l .r .list) (l .r .len) _ room lt (eq-eqb _ _ (w .0 .taken)) (l .inv .5),
+      list-grown (two ss) n (l .i) (l .r .list) (l .r .len) _ room lt (eq-eqb _ _ (w .0 .taken)) (l .inv .5),
     ))
     (λ w. rw (w .1) (
       omega arith,

@@ -12,7 +12,7 @@ use Rattle.graph.specs.Held.{held, noLinear, noStates}
 use Rattle.graph.specs.Shows.{Shows, noMasks}
 use Rattle.state.specs.Holds.{Arrays, arrays}
 use Rattle.run.specs.Course.{Ends}
-use Rattle.reduce.specs.GivesLaws.{ended-at, end-few, end-steps, end-blocks, end-units, done}
+use Rattle.reduce.specs.GivesLaws.{ended-at, end-few, end-steps, end-blocks, end-units, run-done}
 use Rattle.reduce.proofs.accepted.Statement.{statement}
 use Rattle.reduce.proofs.accepted.Tie as tie
 
@@ -86,7 +86,7 @@ returns c =
     let wl = we .before .before .before .before .before in
     let t = wl .before .before .before in
     let r = t .before .before in
-    done (given (start (built r))) (fits r) (r .run .result) (at-end r) (ends r) (t .still-there .result) (t .still-there .ensures .0) (t .still-there .ensures .1)
+    run-done (given (start (built r))) (fits r) (r .run .result) (at-end r) (ends r) (t .still-there .result) (t .still-there .ensures .0) (t .still-there .ensures .1)
     (c .report .result) (wl .write-linear .last .0) (we .write-edges .last .0) (c .report .ensures) (wl .write-linear .ensures) (we .write-edges .ensures)
 
 pub accepted-spec : {M : Type 1} → statement M

@@ -13,7 +13,7 @@ use Rattle.state.specs.Holds.{Arrays, arrays, graphIn}
 use Rattle.run.specs.Blocks.{dueIn}
 use Rattle.run.specs.BlocksLaws.{due-take, none-due, block-due, found-on}
 use Rattle.run.specs.Course.{Course, ToPass, Passes, Ends}
-use Rattle.run.specs.CourseLaws.{begins, used, searchable, onward, over-here, cut-here, removable}
+use Rattle.run.specs.CourseLaws.{course-begins, used, searchable, course-onward, over-here, cut-here, removable}
 use Rattle.run.specs.declared.Reached.{Reached}
 use Rattle.run.specs.declared.Ended.{Ended}
 use Rattle.run.proofs.run.Statement.{statement}
@@ -42,7 +42,7 @@ here m =
     let s = origin m in
     let a = s .args in
     let b = m .before .start-at in
-    m .loop .inv (end s) (begins (a .budget) (a .options) (a .frame) (b .result .state) (b .result .steps) (now (a .lin)) (now (a .edges)) (now (a .masks)) (now (a .states)) (s .pre .0) (s .pre .1) (b .ensures .0) (b .ensures .1))
+    m .loop .inv (end s) (course-begins (a .budget) (a .options) (a .frame) (b .result .state) (b .result .steps) (now (a .lin)) (now (a .edges)) (now (a .masks)) (now (a .states)) (s .pre .0) (s .pre .1) (b .ensures .0) (b .ensures .1))
 
 pass-requires : tie.Need-pass-requires Inv-loop μ-loop
 pass-requires c κs = let m = c .before .before .before .before in (end (origin m), here m)
@@ -174,7 +174,7 @@ loop-again c = λ E a.
     let u = used _ _ E (q .state) (p .pass .result .reached .state) (p .pass .result .reached .steps) (after p) (q .course) in
     record {
       state = T;
-      course = onward _ _ E (q .state) (p .pass .result .reached .state) (p .pass .result .reached .steps) (after p) (q .course) T _ _ _ (omega (arith, spent p, less three, u))
+      course = course-onward _ _ E (q .state) (p .pass .result .reached .state) (p .pass .result .reached .steps) (after p) (q .course) T _ _ _ (omega (arith, spent p, less three, u))
           (block-due opt (q .state) (q .nobody (over d .if1 .left)) (r .order) (r .count) f (two .if2 .left)) (c .take-block .ensures opt (q .state) (q .course .holds));
       queued = refl;
     }

@@ -8,7 +8,7 @@ use lib.ListN.{length, getD, take, length-append}
 use lib.Seq.{length-take-le, getD-take}
 use lib.Bits.{bitOr}
 use Rattle.whole.specs.Words.{mem, bit}
-use Rattle.cost_laws.specs.Growth.{begins}
+use Rattle.cost_laws.specs.Growth.{grow-begins}
 use Rattle.whole.specs.Members.{mem-append, apart-at}
 use Rattle.whole.specs.Masks.{bit-or, bit-single, these, without}
 use denote.Ref.{now}
@@ -34,7 +34,7 @@ loop-holds c =
       omega arith,
       refl,
       record {
-        growing = begins 64 (nearBy (now (a .near))) (p .0) (a .c ∷ removedBy (a .removed)) (a .seed) (p .2) (p .3);
+        growing = grow-begins 64 (nearBy (now (a .near))) (p .0) (a .c ∷ removedBy (a .removed)) (a .seed) (p .2) (p .3);
         leads = refl;
         marks = λ k b. bit-or (c .before .set-aside .result) (c .single .result) k
             ∙ ap₂ (λ (x y : Bool). x || y) (c .before .set-aside .ensures k b) (ap (λ (z : ℕ). bit z k) (c .single .ensures) ∙ bit-single (a .seed) k ∙ sym (or-false (eqb k (a .seed))))
