@@ -56,26 +56,20 @@ fn put_edits(line: &[u8], at: usize, block: &mut [u8]) -> usize {
     LOST
 }
 
-fn wide(b: u8) -> u32
-    ensures { λ r. ⌜ r ≤ 255 ⌝ }
-{
-    b as u32
-}
-
 struct Sums {
-    one: u32,
-    two: u32,
+    one: u64,
+    two: u64,
 }
 
 // s1 and s2 of the first 508 bytes, made here and not by the library.
 fn sums_of(block: &[u8]) -> Sums
     ensures { λ r. ⌜ (r .one < 65536) × (r .two < 65536) ⌝ }
 {
-    let mut one: u32 = 1;
-    let mut two: u32 = 0;
+    let mut one: u64 = 1;
+    let mut two: u64 = 0;
     let mut k = 0;
     while k < 508 {
-        one = (one + wide(place::byte_at(block, k))) % 65536;
+        one = (one + whole::wide(place::byte_at(block, k))) % 65536;
         two = (two + one) % 65536;
         k = k + 1;
     }
@@ -88,10 +82,10 @@ fn seal(block: &mut [u8], sealed: u64) {
         return;
     }
     let s = sums_of(block);
-    put_edit(block, 508, (s.one % 256) as u64);
-    put_edit(block, 509, (s.one / 256) as u64);
-    put_edit(block, 510, (s.two % 256) as u64);
-    put_edit(block, 511, (s.two / 256) as u64);
+    put_edit(block, 508, s.one % 256);
+    put_edit(block, 509, s.one / 256);
+    put_edit(block, 510, s.two % 256);
+    put_edit(block, 511, s.two / 256);
 }
 
 // The block behind the base is zero, so a longer LENGTH is filled up.

@@ -10,14 +10,7 @@ use rules::Step;
 pub fn steps_at(bytes: &[u8], first: usize) -> [Step; 64]
     requires { ⌜ first ≤ 76 ⌝ }
 {
-    let none = Step {
-        decision: 0,
-        degree: 0,
-        first: 0,
-        second: 0,
-        third: 0,
-        choices: 0,
-    };
+    let none = rules::no_step();
     let mut steps = [none; 64];
     let mut k = 0;
     while k < 64 {

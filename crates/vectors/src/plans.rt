@@ -15,15 +15,9 @@ fn constant_of(block: &[u8]) -> u64 {
     let mut k: usize = 12;
     while 4 < k {
         k = k - 1;
-        v = v % 72057594037927936 * 256 + wide(place::byte_at(block, k));
+        v = v % 72057594037927936 * 256 + whole::wide(place::byte_at(block, k));
     }
     v
-}
-
-fn wide(b: u8) -> u64
-    ensures { λ r. ⌜ r ≤ 255 ⌝ }
-{
-    b as u64
 }
 
 fn states_of(block: &[u8]) -> [u8; 64] {
