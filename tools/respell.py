@@ -26,6 +26,8 @@ BY_HAND = {
 LEMMAS = """steps-from step-asked contract-choice over-cuts over-removed linear-at end-steps linear-of linear-out from-little from-twos
 block-after near-fine edge-size bit-or bit-and bit-xor all-of mask-of edge-at""".split()
 BY_HAND |= {n: n.replace("-", "_") + "_lem" for n in LEMMAS}
+# Spelled as the library's names beside which they stand.
+KEPT = {"and-true", "or-false"}
 # Functions with a capital of one letter, in the files that use them.
 PARTS = {"P": "plus_part", "N": "minus_part", "PS": "plus_parts", "NS": "minus_parts"}
 PARTS_IN = ("whole/specs/Parts.antt", "whole/specs/Ints.antt", "size_laws/specs/Values.antt", "size_laws/specs/ValueLaws.antt")
@@ -49,6 +51,8 @@ def shared(path):
 
 
 def respelled(name):
+    if name in KEPT:
+        return name
     if name in BY_HAND:
         return BY_HAND[name]
     if re.match(r"[A-Z]", name):

@@ -3,7 +3,7 @@
 use Rattle.std.specs.Prelude.{◌≡◌, refl, Bool, true, false, cond, not, ◌&&◌, List, [], ◌∷◌, ◌++◌, ℕ, zero, suc, eqb, length}
 use Rattle.std.proofs.Common.{sym, ap, ap₂, ◌∙◌, arith}
 use Rattle.whole.specs.Words.{some, one_of}
-use Rattle.whole.specs.Tests.{clash, row_off, or_false, or_none, and_true, eqb_same, same_eqb, other_eqb}
+use Rattle.whole.specs.Tests.{clash, row_off, or-false, or_none, and-true, eqb_same, same_eqb, other_eqb}
 use Rattle.rules.specs.Refuse.{first_row, over, block_rows, bytes_rows, read_refusal}
 use Rattle.rules.specs.Call.{unless}
 use Rattle.rules.specs.declared.Record.{Record}
@@ -38,7 +38,7 @@ stands (suc k) below h = refl
 pub rows_then : (xs ys : List (ℕ × Bool)) → numbered xs ≡ true → first_row (xs ++ ys) ≡ unless (first_row xs) (first_row ys) (first_row xs)
 unfolding first_row
 rows_then [] ys n = refl
-rows_then (x ∷ xs) ys n = let h = and_true _ _ n in by x.1 h.0 (rows_then xs ys h.1)
+rows_then (x ∷ xs) ys n = let h = and-true _ _ n in by x.1 h.0 (rows_then xs ys h.1)
   where
     by : (t : Bool) → not (eqb x.0 0) ≡ true → first_row (xs ++ ys) ≡ unless (first_row xs) (first_row ys) (first_row xs)
         → cond t x.0 (first_row (xs ++ ys)) ≡ unless (cond t x.0 (first_row xs)) (first_row ys) (cond t x.0 (first_row xs))
@@ -65,7 +65,7 @@ pub rows_off : (rs : List (ℕ × Bool)) → numbered rs ≡ true → first_row 
 unfolding first_row
 rows_off [] n e = tt
 rows_off (r ∷ rs) n e =
-    let h = and_true _ _ n in
+    let h = and-true _ _ n in
     let k = row_off r.0 r.1 (first_row rs) (other_eqb r.0 0 h.0) e in
     (k.0, rows_off rs h.1 k.1)
 
@@ -82,7 +82,7 @@ NoTest (t ∷ ts) = (t ≡ false) × NoTest ts
 pub tests_off : (ts : List Bool) → one_of ts ≡ false → NoTest ts
 unfolding one_of
 tests_off [] e = tt
-tests_off (t ∷ ts) e = let h = or_false t (one_of ts) e in (h.0, tests_off ts h.1)
+tests_off (t ∷ ts) e = let h = or-false t (one_of ts) e in (h.0, tests_off ts h.1)
 
 pub no_test : (ts : List Bool) → NoTest ts → one_of ts ≡ false
 unfolding one_of

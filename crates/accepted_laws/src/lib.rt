@@ -1,1 +1,2 @@
 // What an accepted objective gives: laws alone, in specs/.
+#![tactic(auto)]

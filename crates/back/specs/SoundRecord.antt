@@ -12,7 +12,7 @@ use Rattle.std.proofs.Math.Seq.{take-set-lt, set_out}
 use Rattle.std.proofs.lemmas.List.{take-set-le}
 use borrow.Author.Tests.{leb-true, ltb-true, not-false}
 use Rattle.whole.specs.Words.{from, all, all_of, bit, one_if}
-use Rattle.whole.specs.Tests.{and_true}
+use Rattle.whole.specs.Tests.{and-true}
 use Rattle.whole.specs.Members.{all_of_lem, all_in}
 use Rattle.rules.specs.Eliminate as rule
 use Rattle.rules.specs.Back.{place, mask_of, play, play_all, grow_back}
@@ -25,8 +25,8 @@ use Rattle.rules.specs.declared.Record.{Record}
 each : (ts : List Bool) (k : ℕ) → all_of ts ≡ true → get_or ts k true ≡ true
 unfolding all_of
 each [] k e = refl
-each (t ∷ ts) zero e = (and_true t (all_of ts) e).0
-each (t ∷ ts) (suc k) e = each ts k (and_true t (all_of ts) e).1
+each (t ∷ ts) zero e = (and-true t (all_of ts) e).0
+each (t ∷ ts) (suc k) e = each ts k (and-true t (all_of ts) e).1
 
 all_weaken : (p q : ℕ → Bool) (xs : List ℕ) → ((j : ℕ) → p j ≡ true → q j ≡ true) → all p xs ≡ true → all q xs ≡ true
 all_weaken p q xs w e = all_of_lem q xs (λ k m. w k (all_in p xs e k m))
@@ -42,7 +42,7 @@ module _ (n : ℕ) where
   unfolding mask_of all
   mask_front x [] e = refl
   mask_front x (j ∷ js) e =
-      let h = and_true (ltb j n) (all (λ j. ltb j n) js) e in
+      let h = and-true (ltb j n) (all (λ j. ltb j n) js) e in
       rw (get_or-take n x j 0 (ltb-true j n h.0), mask_front x js h.1)
 
   set_front : (x : List ℕ) (d v : ℕ) → set (take n x) d v ≡ take n (set x d v)
@@ -72,13 +72,13 @@ module _ (r : Record) (h : broken r ≡ false) where
 
   near_below : (k : ℕ) → step_fine r k ≡ true → all (λ j. ltb j r.n) (near_of (step_at r k)) ≡ true
   unfolding step_fine
-  near_below k e = all_weaken (near_fine r k) (λ j. ltb j r.n) (near_of (step_at r k)) (λ j f. (and_true _ _ (and_true _ _ f).0).0) (each _ 5 e)
+  near_below k e = all_weaken (near_fine r k) (λ j. ltb j r.n) (near_of (step_at r k)) (λ j f. (and-true _ _ (and-true _ _ f).0).0) (each _ 5 e)
 
   steps_within : (c a : ℕ) → a + c ≤ length r.steps → all (step_fine r) (from a c) ≡ true → NearWithin r.n (map played (take c (drop a r.steps)))
   unfolding all from
   steps_within zero a l e = tt
   steps_within (suc c) a l e =
-      let t = and_true (step_fine r a) (all (step_fine r) (from (suc a) c)) e in
+      let t = and-true (step_fine r a) (all (step_fine r) (from (suc a) c)) e in
       rw (drop-cons r.steps a no_step (omega arith)) (near_below a t.0, steps_within c (suc a) (omega arith) t.1)
 
   pub record_within : length r.steps ≡ 64 → NearWithin r.n (steps_of r)

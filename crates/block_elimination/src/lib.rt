@@ -1,4 +1,5 @@
 // Eliminating a small block: its members leave, what they cost at best goes to its boundary, and each gets a step.
+#![tactic(auto)]
 ghost use Rattle.std.specs.Prelude.{◌≡◌, List, ◌++◌, ℕ, ◌+◌, ◌<◌, ◌≤◌, ◌^◌, get_or, take, ℤ};
 ghost use Rattle.whole.specs.Words.{one_if, bit, bits_from, tab};
 ghost use Rattle.rules.specs.Graph.{graph};
@@ -17,14 +18,14 @@ use rules::Step;
 use state::steps::Steps;
 
 // For each filling of the boundary the winning mask, and the table of what it costs.
-#[derive(Drop)]
+#[derive(Clone, Copy)]
 pub struct Winners {
     pub masks: [usize; 4],
     pub table: [i64; 8],
 }
 
 // The boundary's decisions, of which the first `width` are there; the others are 0.
-#[derive(Drop)]
+#[derive(Clone, Copy)]
 pub struct Outside {
     pub first: usize,
     pub second: usize,
@@ -32,7 +33,7 @@ pub struct Outside {
 }
 
 // What eliminating a block leaves: the frame, and the steps with the members' own.
-#[derive(Drop)]
+#[derive(Clone, Copy)]
 pub struct Blocked {
     pub frame: Frame,
     pub steps: Steps,

@@ -1,4 +1,5 @@
 // The cheapest interior mask of a block, for a filling of its boundary.
+#![tactic(auto)]
 ghost use Rattle.std.specs.Prelude.{◌≡◌, ◌<◌, ◌≤◌, take, drop};
 ghost use Rattle.whole.specs.Parts.{∣◌∣};
 ghost use Rattle.whole.specs.Words.{chosen};
@@ -67,7 +68,7 @@ fn inner_cost(
 }
 
 // A mask and what it costs.
-#[derive(Drop)]
+#[derive(Clone, Copy)]
 pub struct Best {
     pub mask: usize,
     pub cost: i64,

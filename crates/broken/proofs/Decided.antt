@@ -1,7 +1,7 @@
 -- The mask of the decisions of the steps so far.
 -- Assumes nothing.
 use mathlib.Core.Path.{◌≡◌, refl, sym, ap, ap₂, ◌∙◌}
-use mathlib.Core.Bool.{Bool, true, false, not, ◌&&◌, ◌||◌, and_assoc, or_false, not-not}
+use mathlib.Core.Bool.{Bool, true, false, not, ◌&&◌, ◌||◌, and_assoc, or-false, not-not}
 use mathlib.Core.List.{[], ◌∷◌, ◌++◌, map, map-append}
 use Prim.Native.Nat.{ℕ, suc, ◌+◌, ◌^◌, ◌<◌}
 use native.Mathlib.Omega.{arith}
@@ -14,7 +14,7 @@ use Rattle.whole.specs.Words.{bit, from, upto, mem, all, all_of}
 use Rattle.whole.specs.Those.{from_last}
 use Rattle.whole.specs.Members.{mem_append}
 use Rattle.whole.specs.Masks.{without, bit_or_lem, bit_less, bit_none, bit_single, none_passes}
-use Rattle.whole.specs.Tests.{and_true}
+use Rattle.whole.specs.Tests.{and-true}
 use Rattle.rules.specs.Record.{state_at, step_at, decided, ascending, near_of, near_fine, choice_limit, step_fine, stepped}
 use Rattle.rules.specs.declared.Step.{Step}
 use Rattle.rules.specs.declared.Record.{Record}
@@ -57,7 +57,7 @@ module _ (r : Record) (k m : ℕ) (h : HasDecided r k m) where
   decided_more l j =
       let f : ℕ → ℕ = λ i. (step_at r i).decision in
       let e : decided r (suc k) ≡ (decided r k ++ (d ∷ [])) = ap (map f) (from_last 0 k) ∙ map-append f (upto k) ((0 + k) ∷ []) ∙ ap (λ (i : ℕ). decided r k ++ (f i ∷ [])) (zero-add k) in
-      let b : bit (alone d) j ≡ (eqb j d || false) = rw (lt-ltb d 64 l) (bit_single d j ∙ sym (or_false (eqb j d))) in
+      let b : bit (alone d) j ≡ (eqb j d || false) = rw (lt-ltb d 64 l) (bit_single d j ∙ sym (or-false (eqb j d))) in
       bit_or_lem m (alone d) j ∙ ap₂ (λ (x y : Bool). x || y) (h j) b ∙ sym (ap (mem j) e ∙ mem_append j (decided r k) (d ∷ []))
 
   module _ {u e : ℕ} (g : MasksOf r u e) where
@@ -70,7 +70,7 @@ module _ (r : Record) (k m : ℕ) (h : HasDecided r k m) where
     free l j = bit_less u (bit_or m (alone d)) j ∙ ap₂ (λ (x y : Bool). x && not y) (g.unfixed j) (decided_more l j)
 
     below : (t : Bool) → (ltb d r.n && t) ≡ true → d < 64
-    below t h = omega (arith, g.low, ltb-true d r.n (and_true (ltb d r.n) t h).0)
+    below t h = omega (arith, g.low, ltb-true d r.n (and-true (ltb d r.n) t h).0)
 
     pub low_decision : step_fine r k ≡ true → d < 64
     unfolding step_fine all_of

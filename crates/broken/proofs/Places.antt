@@ -1,7 +1,7 @@
 -- A step's three three_places, and the constant, as the code tests them.
 -- Assumes nothing.
 use mathlib.Core.Path.{◌≡◌, refl, sym, ◌∙◌}
-use mathlib.Core.Bool.{Bool, cond, ◌&&◌, ◌||◌, and_assoc, and_true, and-false}
+use mathlib.Core.Bool.{Bool, cond, ◌&&◌, ◌||◌, and_assoc, and-true, and-false}
 use mathlib.Core.List.{List, [], ◌∷◌}
 use Prim.Native.Nat.{ℕ, zero, suc}
 use native.Mathlib.Omega.{arith}
@@ -28,13 +28,13 @@ module _ (p : ℕ → Bool) (x y z : ℕ) (c : Bool) where
       → (leb d 3 && (((ltb d 2 || ltb x y) && (ltb d 3 || ltb y z)) && (cond (ltb 0 d) (p x) (eqb x 0) && (cond (ltb 1 d) (p y) (eqb y 0) && (cond (ltb 2 d) (p z) (eqb z 0) && c)))))
       ≡ all_of (leb d 3 ∷ ascending (take d three) ∷ all p (take d three) ∷ all (λ b. eqb b 0) (drop d three) ∷ c ∷ [])
   unfolding ascending all all_of
-  three_places zero = simp (and_assoc, and_true)
-  three_places (suc zero) = simp (and_assoc, and_true)
-  three_places (suc (suc zero)) = simp (and_assoc, and_true)
-  three_places (suc (suc (suc zero))) = simp (and_assoc, and_true) (past (p x && (p y && (p z && c))))
+  three_places zero = simp (and_assoc, and-true)
+  three_places (suc zero) = simp (and_assoc, and-true)
+  three_places (suc (suc zero)) = simp (and_assoc, and-true)
+  three_places (suc (suc (suc zero))) = simp (and_assoc, and-true) (past (p x && (p y && (p z && c))))
   three_places (suc (suc (suc (suc d)))) = rw (lt-leb (suc (suc (suc (suc d)))) 3 (omega arith))
 
 -- "the constant is within_limit ±2^40"
 pub within_limit : (z : ℤ) → (le_z (negsuc 1099511627775) z && le_z z (pos 1099511627776)) ≡ leb (nat_abs z) 1099511627776
 within_limit (pos a) = refl
-within_limit (negsuc a) = and_true (leb a 1099511627775) ∙ sym (leb-suc-suc a 1099511627775)
+within_limit (negsuc a) = and-true (leb a 1099511627775) ∙ sym (leb-suc-suc a 1099511627775)

@@ -1,7 +1,7 @@
 -- Loops that test each number of a range: one turn on.
 -- Assumes nothing.
 use mathlib.Core.Path.{◌≡◌, sym, ap, ◌∙◌}
-use mathlib.Core.Bool.{Bool, true, ◌&&◌, and_assoc, and_true}
+use mathlib.Core.Bool.{Bool, true, ◌&&◌, and_assoc, and-true}
 use Prim.Native.Nat.{ℕ, ◌+◌, ◌-◌, ◌<◌, ◌≤◌}
 use Rattle.whole.specs.Words.{from, all}
 use Rattle.whole.specs.Those.{from_more, from_end}
@@ -20,4 +20,4 @@ module _ (p : ℕ → Bool) (i n : ℕ) where
   kept_turn t h = and_assoc t (p i) (all p (from (i + 1) (n - (i + 1)))) ∙ ap (λ (b : Bool). t && b) (sym (all_turn h))
 
   pub kept_over : (t : Bool) → n ≤ i → t ≡ (t && all p (from i (n - i)))
-  kept_over t h = sym (rw (all_over h) (and_true t))
+  kept_over t h = sym (rw (all_over h) (and-true t))

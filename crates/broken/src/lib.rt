@@ -1,4 +1,5 @@
 // "A body is broken unless ..."
+#![tactic(auto)]
 ghost use Rattle.std.specs.Prelude.{◌≡◌, cond, ◌&&◌, ◌-◌, ◌≤◌, leb, ltb, eqb, nat_abs, length, get_or};
 ghost use Rattle.whole.specs.Words.{from, upto, all, bit};
 ghost use Rattle.rules.specs.Record.{is_none, step_at, choice_limit, step_fine, stepped, broken};
@@ -39,7 +40,7 @@ fn mask_if(held: bool, m: u64) -> u64
 }
 
 // The states of the decisions below n: is each known, which are not fixed, which are eliminated?
-#[derive(Drop)]
+#[derive(Clone, Copy)]
 struct States {
     known: bool,
     unfixed: u64,

@@ -2,7 +2,7 @@
 ghost use Rattle.std.specs.Prelude.{◌≡◌};
 ghost use Rattle.broken.specs.Marks.{mark_of, known, fixed, eliminated};
 
-#[derive(Drop)]
+#[derive(Clone, Copy)]
 pub enum Mark {
     Fixed(u8),
     Remaining,

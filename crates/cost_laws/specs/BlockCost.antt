@@ -20,7 +20,7 @@ use Rattle.cost_laws.specs.CostLaws.{cost, Shaped, drop_cost, drop_lin, drop_own
 use Rattle.whole.specs.Cmp.{zero_of}
 use Rattle.cost_laws.specs.EliminateLaws.{mask_at, odd_of, half_of, chosen_mask, shaped_drop, AtMostTwo, empty, single, double, absorb_cost}
 use Rattle.whole.specs.Pigeon.{Apart, none, one}
-use Rattle.whole.specs.Tests.{cases, clash, and_both, not_off, on_not, off_not, refuse, and_true}
+use Rattle.whole.specs.Tests.{cases, clash, and_both, not_off, on_not, off_not, refuse, and-true}
 use Rattle.whole.specs.Members.{nobody, in_cons, in_head, in_tail, out_append, out_cons, out_of_cons, differ, in_those, to_those, in_upto, some_true, apart_head, apart_new, apart_tail, apart_left, apart_right, apart_below, apart_join, apart_those, apart_upto, upto_in}
 use Rattle.cost_laws.specs.OverLists.{over_append, over_all}
 
@@ -266,7 +266,7 @@ pub in_boundary : (g : Graph) (b : List ℕ) (k : ℕ) → mem k (boundary g b) 
 unfolding boundary
 in_boundary g b k h =
     let p = in_those (λ j. not (mem j b) && some (λ i. not (is_zero_z (edge g i j))) b) k (upto g.n) h in
-    let q = and_true (not (mem k b)) (some (λ i. not (is_zero_z (edge g i k))) b) p.1 in
+    let q = and-true (not (mem k b)) (some (λ i. not (is_zero_z (edge g i k))) b) p.1 in
     (upto_in k g.n p.0, off_not (mem k b) q.0, q.1)
 
 pub boundary_outside : (g : Graph) (b : List ℕ) (k : ℕ) → mem k (boundary g b) ≡ true → mem k b ≡ false

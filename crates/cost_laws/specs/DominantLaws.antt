@@ -8,7 +8,7 @@ use Rattle.std.specs.Int.Signed.{lt_z, le_z, ≤ℤ_refl}
 use Rattle.whole.specs.Ints.{ints, zarith}
 use Rattle.whole.specs.Cmp.{lt_ind}
 use Rattle.whole.specs.Words.{mem, below0, above0}
-use Rattle.whole.specs.Tests.{clash, and_true}
+use Rattle.whole.specs.Tests.{clash, and-true}
 use Rattle.whole.specs.Members.{in_cons}
 use Rattle.rules.specs.Graph.{Graph, lin, edge, neighbours, row}
 use Rattle.rules.specs.DominantEdge.{negatives, positives, lo, hi, positive, upper, lower, dominates, contract}
@@ -133,7 +133,7 @@ module _ (g : Graph) (i j : ℕ) (s : Shaped g) (li : i < g.n) (m : mem j (neigh
   -- "Testing a dominant edge": with a in lo and hi, the choice is a best one at every plan
   pub contract_best : dominates g i j ≡ true → (x : ℕ → Bool)
       → when (contract_choice g i j x) (delta_of g.n (lin g) (edge g) x i) ≤ℤ when (x i) (delta_of g.n (lin g) (edge g) x i)
-  contract_best h x = go (positive g i j) refl (and_true (le_z (upper g i j) (pos 0)) (le_z (pos 0) (lower g i j)) h)
+  contract_best h x = go (positive g i j) refl (and-true (le_z (upper g i j) (pos 0)) (le_z (pos 0) (lower g i j)) h)
     where
       d : ℤ
       d = delta_of g.n (lin g) (edge g) x i

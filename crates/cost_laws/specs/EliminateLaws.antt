@@ -116,3 +116,4 @@ absorb_cost g x t (j ∷ k ∷ []) s (double lj lk jk) = two_of g x t j k s lj l
   where
     plain : one_if (x j) + 2 * one_if (x k) ≡ one_if (x j) + 2 * (one_if (x k) + 2 * 0)
     plain = omega arith
+absorb_cost g x t (j ∷ (k ∷ (_ ∷ _))) s none = elim none [ ]

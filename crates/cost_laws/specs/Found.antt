@@ -8,7 +8,7 @@ use Rattle.cost_laws.specs.CostLaws.{cost, Shaped}
 use Rattle.rules.specs.SmallBlock.{component, is_cut, Block, none, members, small, among, or_else, over_cuts, over_removed, search, find_block, boundary, best_mask, eliminate_block}
 use Rattle.cost_laws.specs.EliminateLaws.{mask_at}
 use Rattle.whole.specs.Pigeon.{Apart}
-use Rattle.whole.specs.Tests.{clash, refuse, on_not, off_not, and_true, or_true}
+use Rattle.whole.specs.Tests.{clash, refuse, on_not, off_not, and-true, or_true}
 use Rattle.whole.specs.Members.{in_single, in_head, in_tail, in_left, in_those, upto_in, few, apart_below}
 use Rattle.cost_laws.specs.Growth.{Grown, component_grown, to_nbrs, network}
 use Rattle.cost_laws.specs.BlockCost.{boundary_apart, in_boundary, put, block_plan, block_least}
@@ -156,7 +156,7 @@ module _ (g : Graph) (b : List ℕ) (s : Shaped g) (e : find_block g ≡ members
 
   pub found_block : SmallBlock g b
   found_block =
-      let sizes = and_true (leb 2 (length b)) (leb (length b) 8) by.by.taken.size in
+      let sizes = and-true (leb 2 (length b)) (leb (length b) 8) by.by.taken.size in
       record {
         apart = found_grown.apart;
         two = leb-true 2 (length b) sizes.0;

@@ -176,8 +176,9 @@ marked (i ∷ is) ss = marked is (set ss i 3)
 
 pub drop_all_stands : {n : ℕ} {ss b : List ℕ} {g : Graph} → Stands n ss g → Apart n b → Stands n (marked b ss) (drop_all b g)
 unfolding marked drop_all
-drop_all_stands s none = s
-drop_all_stands s (one {x = i} l m a) = drop_all_stands (stands_drop 3 i s l) a
+drop_all_stands {n = n} {ss = ss} {g = g} s none = s
+drop_all_stands {n = n} {ss = ss} {g = g} s (one {x = i} {xs = xs} l m a) =
+    drop_all_stands {n = n} {ss = set ss i 3} {b = xs} {g = drop_to 3 i g} (stands_drop 3 i s l) a
 
 -- those that have not left keep theirs
 pub marked_other : (b ss : List ℕ) (i : ℕ) → mem i b ≡ false → get_or (marked b ss) i 0 ≡ get_or ss i 0

@@ -5,11 +5,11 @@ use Rattle.std.proofs.Common.{add-one, drop_of_length-le, drop-cons}
 use native.Mathlib.Omega.{arith}
 use Rattle.std.proofs.Math.ListN.{get_or}
 use borrow.Author.Tests.{le-leb, lt-leb, leb-true, eq-eqb, ne_eqb}
-use Rattle.whole.specs.Tests.{and_true}
+use Rattle.whole.specs.Tests.{and-true}
 use Rattle.rules.specs.ReadText.{got, bad, turned, digit, digits, closed, number, weight}
 
 pub digit_bounds : (b : ℕ) → digit b ≡ true → (48 ≤ b) × (b ≤ 57)
-digit_bounds b h = let t = and_true (leb 48 b) (leb b 57) h in (leb-true 48 b t.0, leb-true b 57 t.1)
+digit_bounds b h = let t = and-true (leb 48 b) (leb b 57) h in (leb-true 48 b t.0, leb-true b 57 t.1)
 
 -- a value of digits is no less than the value before them
 stop_or_go : (max end v b : ℕ) (s : List ℕ) (t : Bool) → max < v → closed max end (digits (10 * v + (b - 48)) s) ≡ bad

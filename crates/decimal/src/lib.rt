@@ -1,4 +1,5 @@
 // Numbers as decimal text: read from a place of a slice on, and written into a lent one.
+#![tactic(auto)]
 ghost use Rattle.std.specs.Prelude.{◌≡◌, ◌++◌, ℕ, ◌+◌, ◌*◌, ◌≤◌, leb, length, drop, ℤ, pos, neg_ℤ, nat_abs};
 ghost use Rattle.rules.specs.ReadText.{digit, number, weight};
 ghost use Rattle.rules.specs.WriteText.{decimal, shown, shown_z};
@@ -6,14 +7,14 @@ ghost use Rattle.decimal.specs.Seen.{seen, seen_z, within};
 ghost use Rattle.decimal.specs.Puts.{Wrote};
 
 // A number and where to read on.
-#[derive(Drop)]
+#[derive(Clone, Copy)]
 pub enum Number {
     Value(u64, usize),
     Malformed,
 }
 
 // A number with a sign and where to read on.
-#[derive(Drop)]
+#[derive(Clone, Copy)]
 pub enum Signed {
     Value(i64, usize),
     Malformed,

@@ -1,4 +1,5 @@
 // Eliminating a decision that has three neighbours, where that leaves no cubic term.
+#![tactic(auto)]
 ghost use Rattle.std.specs.Prelude.{◌≡◌, cond, List, [], ℕ, ◌<◌, ◌≤◌, ◌^◌, get_or, pos};
 ghost use Rattle.whole.specs.Words.{tab};
 ghost use Rattle.rules.specs.Eliminate.{step_of};
@@ -13,7 +14,7 @@ ghost use Rattle.accepted_laws.specs.Small.{Small};
 ghost use Rattle.degree_three.specs.Pairs.{pair_at};
 
 // Two of three neighbours, and the Möbius entry that goes to their edge.
-#[derive(Drop)]
+#[derive(Clone, Copy)]
 pub struct Pair {
     pub low: usize,
     pub high: usize,
@@ -39,7 +40,7 @@ const PAIRS: [Pair; 3] = [
 ];
 
 // What trying a decision gives: a cubic term and nothing done, or the reduction.
-#[derive(Drop)]
+#[derive(Clone, Copy)]
 pub struct Tried {
     pub cubic: bool,
     pub frame: graph::Frame,

@@ -1,1 +1,2 @@
 // What a reduction is good for: grown back, an answer costs what the reduced problem says, and no plan is lost. All in specs/.
+#![tactic(auto)]

@@ -1,4 +1,5 @@
 // Contracting a decision with a dominant neighbour.
+#![tactic(auto)]
 ghost use Rattle.std.specs.Prelude.{◌≡◌, ◌&&◌, ◌||◌, [], ◌∷◌, ◌≢◌, ℕ, ◌<◌, ◌≤◌, ◌^◌, get_or, pos};
 ghost use Rattle.std.specs.Int.Signed.{le_z};
 ghost use Rattle.whole.specs.Parts.{∣◌∣};
@@ -15,20 +16,20 @@ ghost use Rattle.accepted_laws.specs.Small.{Small};
 ghost use Rattle.dominant_edge.specs.Answer.{verdict_of, test_of, BoundsAre, Finds, Turns, Moves, ShownOn};
 
 // The least and the largest that a decision's delta can be.
-#[derive(Drop)]
+#[derive(Clone, Copy)]
 pub struct Bounds {
     pub lo: i64,
     pub hi: i64,
 }
 
-#[derive(Drop)]
+#[derive(Clone, Copy)]
 pub struct Test {
     pub passes: bool,
     pub weak: bool,
 }
 
 // The dominant neighbour, and whether it is weak.
-#[derive(Drop)]
+#[derive(Clone, Copy)]
 pub enum Dominant {
     Nothing,
     Neighbour(usize, bool),

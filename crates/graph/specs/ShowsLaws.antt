@@ -5,7 +5,7 @@ use Rattle.std.proofs.Common.{sym, ap, ◌∙◌, subst, arith, add-sub_of_le, l
 use Rattle.std.proofs.Math.Decide.{ℕ_discrete}
 use Rattle.std.proofs.lemmas.List.{length-replicate}
 use Rattle.whole.specs.Words.{bit, is_zero_z, upto, those}
-use Rattle.whole.specs.Tests.{cases, clash, and_true, and_both}
+use Rattle.whole.specs.Tests.{cases, clash, and-true, and_both}
 use Rattle.whole.specs.Members.{upto_in}
 use Rattle.whole.specs.Masks.{these, those_ext, bit_none}
 use Rattle.whole.specs.Those.{those_upto}
@@ -97,13 +97,13 @@ module _ (n : ℕ) (e : List ℤ) (m : List ℕ) (s : Shows n e m) (k l : ℕ) (
   turned_both : (p q : ℕ) → p < 64 → q < 64 → edge_cell turned p q ≡ edge_cell turned q p
   turned_both p q hp hq = cases (eqb p k && eqb q l)
       (λ t.
-      let c = and_true (eqb p k) (eqb q l) t in
+      let c = and-true (eqb p k) (eqb q l) t in
       let u : p ≡ k = eqb-true p k c.0 in
       let v : q ≡ l = eqb-true q l c.1 in
       rw (u, v) (there_on ∙ sym back_on))
       (λ f. cases (eqb p l && eqb q k)
       (λ t.
-      let c = and_true (eqb p l) (eqb q k) t in
+      let c = and-true (eqb p l) (eqb q k) t in
       let u : p ≡ l = eqb-true p l c.0 in
       let v : q ≡ k = eqb-true q k c.1 in
       rw (u, v) (back_on ∙ sym there_on))

@@ -1,4 +1,5 @@
 // The working graph: the atomic updates, building it from the lists, fixing.
+#![tactic(auto)]
 ghost use Rattle.std.specs.Prelude.{◌≡◌, ℕ, ◌+◌, ◌*◌, ◌-◌, ◌<◌, ◌≤◌, cond, not, List, ◌++◌, length, get_or, set, drop, replicate, eqb, ℤ, pos, nat_abs, ◌+ℤ◌};
 ghost use Rattle.std.specs.Int.{w64};
 ghost use Rattle.std.proofs.Common.{SFits};
@@ -14,14 +15,14 @@ ghost use Rattle.graph.specs.Near.{Nears};
 ghost use Rattle.graph.specs.Shows.{Shows, no_masks};
 
 // What a graph has besides its lists.
-#[derive(Drop)]
+#[derive(Clone, Copy)]
 pub struct Frame {
     pub n: usize,
     pub constant: i64,
 }
 
 // How many neighbours a decision has, and of the first three, ascending, which they are and its edges to them; zeros where there are fewer.
-#[derive(Drop)]
+#[derive(Clone, Copy)]
 pub struct Near {
     pub list: [u8; 3],
     pub weights: [i64; 3],

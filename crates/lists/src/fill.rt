@@ -2,7 +2,7 @@
 use crate::place;
 use crate::place::LOST;
 
-#[derive(Drop)]
+#[derive(Clone, Copy)]
 pub struct Filled {
     pub count: usize,
     pub next: usize,
@@ -16,7 +16,7 @@ fn nothing() -> Filled {
 }
 
 // `COUNT*VALUE`, the value as 64 bits.
-#[derive(Drop)]
+#[derive(Clone, Copy)]
 pub struct Run {
     pub count: u64,
     pub value: u64,

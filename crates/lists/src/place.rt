@@ -4,7 +4,7 @@ ghost use Rattle.std.specs.Prelude.{◌≡◌, ◌≤◌};
 // No line is this long.
 pub const LOST: usize = 18_446_744_073_709_551_615;
 
-#[derive(Drop)]
+#[derive(Clone, Copy)]
 pub struct Found {
     pub value: u64,
     pub next: usize,

@@ -1,4 +1,5 @@
 // Eliminating a decision that has at most two neighbours.
+#![tactic(auto)]
 ghost use Rattle.std.specs.Prelude.{◌≡◌, List, [], ◌∷◌, ℕ, ◌<◌, ◌≤◌, ◌^◌, get_or, take, pos};
 ghost use Rattle.std.specs.Int.Signed.{lt_z};
 ghost use Rattle.whole.specs.Parts.{∣◌∣};
@@ -14,14 +15,14 @@ ghost use Rattle.accepted_laws.specs.Small.{Small};
 ghost use Rattle.low_degree.specs.Table.{deltas_of, tees_of, choice_bits, step_from, Tables};
 
 // What a reduction leaves: the frame, and the step that grows its decision back.
-#[derive(Drop)]
+#[derive(Clone, Copy)]
 pub struct Reduced {
     pub frame: graph::Frame,
     pub step: rules::Step,
 }
 
 // The deltas of a decision's masks, and the smaller of each and 0.
-#[derive(Drop)]
+#[derive(Clone, Copy)]
 pub struct Table {
     pub deltas: [i64; 8],
     pub tees: [i64; 8],

@@ -1,1 +1,2 @@
 // The cost of an objective as the caller gave it, against the cost of the graph that is built from it and of the graph after fixing: all in specs/.
+#![tactic(auto)]

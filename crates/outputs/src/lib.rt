@@ -1,11 +1,12 @@
 // The outputs, over the remaining decisions alone.
+#![tactic(auto)]
 ghost use Rattle.std.specs.Prelude.{◌≡◌, List, ℕ, ◌+◌, ◌*◌, ◌<◌, ◌≤◌, length, get_or, replicate, pos};
 ghost use Rattle.whole.specs.Words.{tab};
 ghost use Rattle.graph.specs.Shows.{Shows};
 ghost use Rattle.outputs.specs.Out.{rest, active_of, Places, Turned, MaskShows, Row, linear_at, edge_at};
 
 // The decisions that remain, and the place of each among them; 64 for one that does not.
-#[derive(Drop)]
+#[derive(Clone, Copy)]
 pub struct Remaining {
     pub list: [u8; 64],
     pub len: usize,

@@ -2,7 +2,7 @@
 -- Assumes nothing.
 use Rattle.std.specs.Prelude.{ℕ, zero, suc, ◌+◌, ◌*◌, ◌-◌, ◌%◌, ◌^◌, ◌<◌, ◌≡◌, refl, List, [], ◌∷◌, ◌++◌, Bool, true, false, not, ◌&&◌, ◌||◌, eqb, get_or, set, length, drop}
 use Rattle.std.proofs.Common.{ap, ap₂, sym, ◌∙◌, subst, add-one, arith, get_or-set_same, get_or-set_other, eqb-true}
-use Rattle.std.proofs.Math.Bool.{and_true}
+use Rattle.std.proofs.Math.Bool.{and-true}
 use Rattle.std.specs.Int.Bits.{bit_or}
 use Rattle.whole.specs.Masks.{these, these_apart, without, mem_these, bit_or_lem, bit_less, bit_shifted}
 use Rattle.whole.specs.Tests.{cases, clash, refuse}
@@ -56,7 +56,7 @@ shown_less w xs d l a h k lk =
     bit_less w (1 * 2 ^ d % 2 ^ 64) k ∙ ap₂ (λ (p q : Bool). p && not q) (h k lk) (bit_shifted d k l)
     ∙ cases (eqb k d)
     (λ e. rw e (sym (ap (λ (j : ℕ). mem j xs) (eqb-true k d e) ∙ apart_new a)))
-    (λ e. rw e (and_true (mem k xs)))
+    (λ e. rw e (and-true (mem k xs)))
 
 -- and once the decisions of a mask have joined
 pub shown_more : (w m : ℕ) (xs : List ℕ) → ((k : ℕ) → k < 64 → bit w k ≡ mem k xs) → (k : ℕ) → k < 64 → bit (bit_or w m) k ≡ mem k (xs ++ these m)

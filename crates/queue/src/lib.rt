@@ -1,11 +1,12 @@
 // "Take from the front": a queue of waiting decisions, whose methods take self and return the next queue.
+#![tactic(auto)]
 ghost use Rattle.std.specs.Prelude.{◌≡◌, true, false, ℕ, ◌<◌, [], ◌∷◌, ◌++◌, drop};
 ghost use Rattle.whole.specs.Words.{mem};
 ghost use Rattle.whole.specs.Masks.{these};
 ghost use Rattle.queue.specs.Items.{items, QueueKept};
 
 // 64 places that go round, where the front stands in them, how many wait, and a mask of those that do.
-#[derive(Drop)]
+#[derive(Clone, Copy)]
 pub struct Queue {
     pub head: u32,
     pub len: u32,

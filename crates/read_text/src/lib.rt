@@ -1,4 +1,5 @@
 // Readers of the program's text: a cursor by value, and an enum for the answer.
+#![tactic(auto)]
 ghost use Rattle.std.specs.Prelude.{◌≡◌, ℕ, ◌≤◌, length, take, drop, List, [], ◌∷◌, ℤ};
 ghost use Rattle.rules.specs.ReadText.{number8, number32, weight, ender, line, empty, head, terms, after_weights, input};
 ghost use Rattle.read_text.specs.Seen.{seen32, seen8, seen_line, head_of, seen_head, seen_terms, Lengths, ParsesInto, Parses};
@@ -6,7 +7,7 @@ ghost use Rattle.read_text.specs.Seen.{seen32, seen8, seen_line, head_of, seen_h
 use decimal::{Number, Signed};
 
 // A line that was read, and where to read on.
-#[derive(Drop)]
+#[derive(Clone, Copy)]
 pub enum Line {
     Read(usize),
     Malformed,
@@ -54,7 +55,7 @@ pub fn read_weights(text: &[u8], at: usize, n: usize, out: &mut [i64; 64]) -> Li
 }
 
 // A u32 and where to read on.
-#[derive(Drop)]
+#[derive(Clone, Copy)]
 pub enum Narrow {
     Value(u32, usize),
     Malformed,
@@ -70,7 +71,7 @@ pub fn read_u32(text: &[u8], at: usize, end: u8) -> Narrow
 }
 
 // The first line.
-#[derive(Drop)]
+#[derive(Clone, Copy)]
 pub struct Head {
     pub n: u32,
     pub switches: u32,
@@ -78,7 +79,7 @@ pub struct Head {
     pub terms: u32,
 }
 
-#[derive(Drop)]
+#[derive(Clone, Copy)]
 pub enum First {
     Read(Head, usize),
     Malformed,
@@ -111,7 +112,7 @@ pub fn read_head(text: &[u8]) -> First
 }
 
 // A byte and where to read on.
-#[derive(Drop)]
+#[derive(Clone, Copy)]
 pub enum Byte {
     Value(u8, usize),
     Malformed,
@@ -181,7 +182,7 @@ pub fn read_terms(
 }
 
 // What a text gives, or the number of its refusal.
-#[derive(Drop)]
+#[derive(Clone, Copy)]
 pub enum Parsed {
     Given(Head),
     Refused(u8),
@@ -245,7 +246,7 @@ fn parse_into(
 }
 
 // A text, read; its lists stand at the fronts of the arrays.
-#[derive(Drop)]
+#[derive(Clone, Copy)]
 pub struct Text {
     pub parsed: Parsed,
     pub weights: [i64; 64],

@@ -4,7 +4,7 @@ ghost use Rattle.rules.specs.Record.{check, check_right, sealed};
 
 use crate::number;
 
-#[derive(Drop)]
+#[derive(Clone, Copy)]
 pub struct Sums {
     pub s1: u16,
     pub s2: u16,

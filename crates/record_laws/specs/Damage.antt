@@ -8,7 +8,7 @@ use Rattle.std.proofs.lemmas.List.{set-get_or, set_comm, take-set-le, drop-set-a
 use Rattle.std.proofs.Math.Seq.{take-set-lt}
 use Rattle.std.proofs.lemmas.Bool.{eqb-false, not-true}
 use Rattle.whole.specs.Words.{from, all}
-use Rattle.whole.specs.Tests.{and_true}
+use Rattle.whole.specs.Tests.{and-true}
 use Rattle.whole.specs.Members.{all_in, in_from}
 use Rattle.rules.specs.Record.{from_little, check, check_right, sealed}
 use Rattle.record_laws.specs.Bytes.{Bytes, bytes_front, bytes_set}
@@ -96,7 +96,7 @@ record Right (b : List ℕ) : Type 0 where
 right : (b : List ℕ) → check_right b ≡ true → Right b
 unfolding check_right
 right b e =
-    let t = and_true (eqb (from_little (take 2 (drop 508 b))) (check (take 508 b)).s1) _ e in
+    let t = and-true (eqb (from_little (take 2 (drop 508 b))) (check (take 508 b)).s1) _ e in
     record { first = sym (eqb-true _ _ t.0); second = sym (eqb-true _ _ t.1) }
 
 -- a change past 509 leaves the first sum's bytes

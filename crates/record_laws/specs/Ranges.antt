@@ -3,7 +3,7 @@
 use Rattle.std.specs.Prelude.{◌≡◌, refl, true, List, [], ◌∷◌, ◌++◌, map, ℕ, zero, suc, ◌+◌, ◌*◌, ◌≤◌, eqb, length, get_or, take, drop, replicate}
 use Rattle.std.proofs.Common.{sym, ap, ◌∙◌, append_assoc, arith, add-zero, add-suc, add-one, drop-cons, drop-drop, get_or-drop, take-add, eqb-true, eq-eqb}
 use Rattle.whole.specs.Words.{from, all}
-use Rattle.whole.specs.Tests.{and_true}
+use Rattle.whole.specs.Tests.{and-true}
 use Rattle.rules.specs.Record.{step_in, step_bytes, steps_bytes}
 use Rattle.rules.specs.declared.Step.{Step}
 
@@ -24,7 +24,7 @@ pub zeros_stand : (c a : ℕ) (l : List ℕ) → a + c ≤ length l → all (λ 
 unfolding all from
 zeros_stand zero a l h e = refl
 zeros_stand (suc c) a l h e =
-    let t = and_true (eqb (get_or l a 0) 0) (all (λ k. eqb (get_or l k 0) 0) (from (suc a) c)) e in
+    let t = and-true (eqb (get_or l a 0) 0) (all (λ k. eqb (get_or l k 0) 0) (from (suc a) c)) e in
     rw (drop-cons l a 0 (omega arith), eqb-true (get_or l a 0) 0 t.0, zeros_stand c (suc a) l (omega arith) t.1)
 
 -- ---- steps

@@ -9,7 +9,7 @@ use Rattle.std.proofs.lemmas.List.{length-map}
 use Rattle.std.proofs.Math.Seq.{take-add}
 use borrow.Author.Tests.{eq-eqb, eqb-true, leb-true, not-false}
 use Rattle.whole.specs.Words.{from, upto, all, all_of}
-use Rattle.whole.specs.Tests.{and_true, row_off}
+use Rattle.whole.specs.Tests.{and-true, row_off}
 use Rattle.rules.specs.Record.{edition, little, from_little, twos, from_twos, step_in, body, check, check_right, sealed, block_of, record_in, sound, broken, zeros_in, body_broken}
 use Rattle.rules.specs.Refuse.{first_row, read_refusal}
 use Rattle.rules.specs.declared.Record.{Record}
@@ -22,9 +22,9 @@ use Rattle.record_laws.specs.Seal.{seal_length, seal_right}
 constant_small : (r : Record) → sound r ≡ true → nat_abs r.constant ≤ 1099511627776
 unfolding sound all_of
 constant_small r e =
-    let a = and_true (leb r.n 64) _ e in
-    let b = and_true (leb r.count 64) _ a.1 in
-    leb-true (nat_abs r.constant) 1099511627776 (and_true (leb (nat_abs r.constant) 1099511627776) _ b.1).0
+    let a = and-true (leb r.n 64) _ e in
+    let b = and-true (leb r.count 64) _ a.1 in
+    leb-true (nat_abs r.constant) 1099511627776 (and-true (leb (nat_abs r.constant) 1099511627776) _ b.1).0
 
 module _ (r : Record) (h : Held r) where
   -- ---- a written block is read as its record
@@ -76,7 +76,7 @@ is_readable b e =
     let c = row_off 10 (not (check_right b)) _ (λ z. omega arith) a.1 in
     let d = row_off 11 (not (eqb (get_or b 0 0) edition)) _ (λ z. omega arith) c.1 in
     let f = row_off 12 (body_broken b) _ (λ z. omega arith) d.1 in
-    let g = and_true (zeros_in b) (sound (record_in b)) (not-false _ f.0) in
+    let g = and-true (zeros_in b) (sound (record_in b)) (not-false _ f.0) in
     record {
       long = eqb-true (length b) 512 (not-false _ a.0);
       right = not-false (check_right b) c.0;
@@ -101,7 +101,7 @@ module _ (b : List ℕ) (h : Bytes b) where
     pub right_sealed : check_right b ≡ true → sealed (take 508 b) ≡ b
     unfolding check_right sealed
     right_sealed e =
-        let t = and_true (eqb (from_little (take 2 (drop 508 b))) (check (take 508 b)).s1) _ e in
+        let t = and-true (eqb (from_little (take 2 (drop 508 b))) (check (take 508 b)).s1) _ e in
         let p = part_again 2 508 _ (omega arith) (sym (eqb-true _ _ t.0)) in
         let q = part_again 2 510 _ (omega arith) (sym (eqb-true _ _ t.1)) in
         rw (p, q, ← take-add 508 2 b, ← take-add 510 2 b) (take_all 512 b (omega arith))
@@ -123,13 +123,13 @@ module _ (b : List ℕ) (h : Bytes b) where
     head_again : Readable b → edition ∷ get_or b 1 0 ∷ get_or b 2 0 ∷ 0 ∷ [] ≡ take 4 b
     unfolding zeros_in all from
     head_again a =
-        let z = eqb-true (get_or b 3 0) 0 (and_true (eqb (get_or b 3 0) 0) _ a.zeros).0 in
+        let z = eqb-true (get_or b 3 0) 0 (and-true (eqb (get_or b 3 0) 0) _ a.zeros).0 in
         let s : take 4 b ≡ get_or b 0 0 ∷ get_or b 1 0 ∷ get_or b 2 0 ∷ get_or b 3 0 ∷ [] = stretch 4 0 0 b (omega arith) in
         sym (rw (a.edition, z) at s)
 
     zeros_again : Readable b → replicate 48 0 ≡ take 48 (drop 460 b)
     unfolding zeros_in all
-    zeros_again a = sym (zeros_stand 48 460 b (omega arith) (and_true (eqb (get_or b 3 0) 0) _ a.zeros).1)
+    zeros_again a = sym (zeros_stand 48 460 b (omega arith) (and-true (eqb (get_or b 3 0) 0) _ a.zeros).1)
 
     body_again : Readable b → body (record_in b) ≡ take 508 b
     unfolding body record_in

@@ -1,10 +1,12 @@
 // What the calls of 01-scope.md take and give back. The rules themselves stand in specs/.
+#![tactic(auto)]
+
 ghost use Rattle.std.specs.Prelude.{◌≡◌};
 ghost use Rattle.rules.specs.Options.{options_of};
 ghost use Rattle.rules.specs.Record.{no_step, no_record};
 
 // What a run is asked besides its objective: which reductions it makes.
-#[derive(Drop)]
+#[derive(Clone, Copy)]
 pub struct Options {
     pub low_degree: bool,
     pub degree_three: bool,
@@ -25,7 +27,7 @@ pub fn options_of(switches: u32) -> Options
 }
 
 // A step as the record holds it: decision, degree d, three neighbours, choices (bit m for mask m).
-#[derive(Drop)]
+#[derive(Clone, Copy)]
 pub struct Step {
     pub decision: u8,
     pub degree: u8,
@@ -50,7 +52,7 @@ pub fn no_step() -> Step
 }
 
 // How to grow an answer back. `count` is the number of steps; a state for each decision: 0 or 1 fixed, 2 remaining, 3 eliminated.
-#[derive(Drop)]
+#[derive(Clone, Copy)]
 pub struct Record {
     pub n: u8,
     pub count: u8,
@@ -74,14 +76,14 @@ pub fn no_record() -> Record
 }
 
 // What reading a block gives: a refusal's number with an empty record, or 0 and the record.
-#[derive(Drop)]
+#[derive(Clone, Copy)]
 pub struct Reading {
     pub answer: u8,
     pub record: Record,
 }
 
 // The counts that a reduction adds to.
-#[derive(Drop)]
+#[derive(Clone, Copy)]
 pub struct Tally {
     pub eliminated: u32,
     pub three: u32,
@@ -92,7 +94,7 @@ pub struct Tally {
 }
 
 // The counts of `RootReductionStatistics`, cut dominance aside.
-#[derive(Drop)]
+#[derive(Clone, Copy)]
 pub struct Counts {
     pub eliminated: u32,
     pub degree_three_eliminated: u32,
@@ -107,7 +109,7 @@ pub struct Counts {
 }
 
 // What a reduction gives: a refusal's number with nothing else, or 0 and all of it.
-#[derive(Drop)]
+#[derive(Clone, Copy)]
 pub struct Reduction {
     pub answer: u8,
     pub record: Record,

@@ -1,4 +1,5 @@
 // The run: what is due is done, one unit each, until nothing is due or no unit is left.
+#![tactic(auto)]
 ghost use Rattle.std.specs.Prelude.{◌≡◌, [], ◌+◌, ◌≤◌};
 ghost use Rattle.rules.specs.Counts.{nothing_counted};
 ghost use Rattle.rules.specs.Run as rule;
@@ -17,21 +18,21 @@ use state::{State, waiting};
 mod block; // the block that is due
 
 // How far a run has come: its state and its steps.
-#[derive(Drop)]
+#[derive(Clone, Copy)]
 pub struct Reached {
     pub state: State,
     pub steps: Steps,
 }
 
 // How far a pass has come, and whether someone still waits: then no unit was left.
-#[derive(Drop)]
+#[derive(Clone, Copy)]
 pub struct Passed {
     pub more: bool,
     pub reached: Reached,
 }
 
 // Where a run ended.
-#[derive(Drop)]
+#[derive(Clone, Copy)]
 pub struct Ended {
     pub complete: bool,
     pub state: State,

@@ -3,7 +3,7 @@
 use Rattle.std.specs.Prelude.{◌≡◌, refl, Bool, true, false, cond, not, ◌&&◌, List, [], ◌∷◌, ◌++◌, ℕ, ◌<◌}
 use Rattle.whole.specs.Words.{mem}
 use Rattle.whole.specs.Pigeon.{Apart}
-use Rattle.whole.specs.Tests.{and_true, off_not}
+use Rattle.whole.specs.Tests.{and-true, off_not}
 use Rattle.whole.specs.Members.{in_head, in_tail, apart_more, apart_those, apart_upto}
 use Rattle.rules.specs.Graph.{Graph, active, actives}
 use Rattle.rules.specs.declared.Options.{Options}
@@ -26,5 +26,5 @@ join_apart {n} opt g (j ∷ js) q h a =
     join_apart opt g js (cond (active g j && not (mem j q) && eligible opt g j) (q ++ j ∷ []) q) (λ k m. h k (in_tail k j js m)) (go (active g j && not (mem j q) && eligible opt g j) refl)
   where
     go : (c : Bool) → (active g j && not (mem j q) && eligible opt g j) ≡ c → Apart n (cond c (q ++ j ∷ []) q)
-    go true e = apart_more j a (h j (in_head j js)) (off_not (mem j q) (and_true (active g j) (not (mem j q)) (and_true (active g j && not (mem j q)) (eligible opt g j) e).0).1)
+    go true e = apart_more j a (h j (in_head j js)) (off_not (mem j q) (and-true (active g j) (not (mem j q)) (and-true (active g j && not (mem j q)) (eligible opt g j) e).0).1)
     go false e = a

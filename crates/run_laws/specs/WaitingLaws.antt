@@ -6,7 +6,7 @@ use Rattle.std.proofs.Common.{sym, ◌∙◌, subst}
 use Rattle.std.proofs.Math.Bool.{false}
 use mathlib.Core.List.{List, [], ◌∷◌, ◌++◌}
 use Rattle.whole.specs.Words.{mem}
-use Rattle.whole.specs.Tests.{and_true}
+use Rattle.whole.specs.Tests.{and-true}
 use Rattle.whole.specs.Members.{in_tail, in_append, in_single, in_those, apart_new, out_of_cons, out_both, differ}
 use Rattle.whole.specs.Pigeon.{Apart}
 use Rattle.rules.specs.Options.{asked}
@@ -42,7 +42,7 @@ join_active opt g (j ∷ js) q h k m = join_active opt g js _ (joins (active g j
   where
     joins : (c : Bool) → (active g j && not (mem j q) && eligible opt g j) ≡ c → AllActive g (cond c (q ++ j ∷ []) q)
     joins true e k m = in_append k q (j ∷ []) m (h k)
-        (λ t. subst (λ (z : ℕ). active g z ≡ true) (sym (in_single k j t)) (and_true (active g j) (not (mem j q)) (and_true (active g j && not (mem j q)) (eligible opt g j) e).0).0)
+        (λ t. subst (λ (z : ℕ). active g z ≡ true) (sym (in_single k j t)) (and-true (active g j) (not (mem j q)) (and-true (active g j && not (mem j q)) (eligible opt g j) e).0).0)
     joins false e k m = h k m
 
 -- a take of i, with q behind it

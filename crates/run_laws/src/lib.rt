@@ -1,1 +1,2 @@
 // The run's own laws: what is due, units, the queue, the steps, the counts, and that every run ends. All in specs/.
+#![tactic(auto)]

@@ -2,7 +2,7 @@
 -- Assumes nothing.
 use Rattle.std.specs.Prelude.{◌≡◌, Bool, true, not, List, ◌∷◌, ℕ, ◌<◌}
 use Rattle.whole.specs.Words.{mem, some}
-use Rattle.whole.specs.Tests.{clash, refuse, and_true, and_both, not_off, off_not}
+use Rattle.whole.specs.Tests.{clash, refuse, and-true, and_both, not_off, off_not}
 use Rattle.whole.specs.Members.{in_those, to_those, some_true}
 use Rattle.rules.specs.SmallBlock.{component, besides, is_cut}
 use Rattle.cost_laws.specs.Growth.{Network, free}
@@ -27,7 +27,7 @@ module _ (n : ℕ) (near : ℕ → List ℕ) (net : Network n near) (removed : L
   pub cut_parts : is_cut near removed c ≡ true → Parts near removed c
   unfolding is_cut
   cut_parts h =
-      let p = and_true (not (mem c removed)) (some off_some (besides near removed c)) h in
+      let p = and-true (not (mem c removed)) (some off_some (besides near removed c)) h in
       some_witness off_some (besides near removed c) p.1
       (λ u mu hu. some_witness (off u) (besides near removed c) hu
       (λ v mv hv. record {

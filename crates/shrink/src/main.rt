@@ -1,4 +1,5 @@
 // Reads an objective from standard input and writes its reduction to standard output.
+#![tactic(auto)]
 use libc::{STDIN_FILENO, STDOUT_FILENO};
 
 // One byte more than a text may have.

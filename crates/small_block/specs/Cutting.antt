@@ -3,7 +3,7 @@
 use Rattle.std.specs.Prelude.{◌≡◌, refl, Bool, true, false, cond, ◌&&◌, List, [], ◌∷◌, ◌≢◌, ℕ, ◌^◌, ◌<◌, ◌≤◌, eqb, ltb}
 use Rattle.std.proofs.Common.{sym, ap₂, ◌∙◌, subst, lt-ltb, le-ltb}
 use Rattle.std.proofs.Math.Path.{ap}
-use Rattle.std.proofs.Math.Bool.{not, and-false, or_false}
+use Rattle.std.proofs.Math.Bool.{not, and-false, or-false}
 use Rattle.std.specs.Int.Count.{count_trailing_zeros}
 use Rattle.whole.specs.Words.{bit, mem, those, some}
 use Rattle.rules.specs.SmallBlock.{component, besides, is_cut}
@@ -36,7 +36,7 @@ those_all p (x ∷ xs) h = ap₂ (λ (b : Bool) (ys : List ℕ). cond b (x ∷ y
 pub less_removed : (a r s : ℕ) → r < 64 → s ≡ 2 ^ r → these (without a s) ≡ those (λ u. not (mem u (removed_by r))) (these a)
 unfolding mem
 less_removed a r s l e = these_less a s ∙ those_ext (λ k. not (bit s k)) (λ u. not (mem u (removed_by r))) (these a)
-    (λ k m. ap not (ap (λ (z : ℕ). bit z k) e ∙ bit_single r k ∙ sym (or_false (eqb k r)) ∙ ap (mem k) (sym (removed_is r l))))
+    (λ k m. ap not (ap (λ (z : ℕ). bit z k) e ∙ bit_single r k ∙ sym (or-false (eqb k r)) ∙ ap (mem k) (sym (removed_is r l))))
 
 pub all_stay : (a r : ℕ) → 64 ≤ r → these a ≡ those (λ u. not (mem u (removed_by r))) (these a)
 unfolding mem

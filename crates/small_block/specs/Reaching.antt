@@ -8,7 +8,7 @@ use Rattle.std.proofs.lemmas.Nat.{or_disjoint, or_lt}
 use Rattle.std.specs.Int.Count.{count_trailing_zeros}
 use Rattle.whole.specs.Words.{bit, mem, some}
 use Rattle.rules.specs.SmallBlock.{component}
-use Rattle.whole.specs.Tests.{cases, clash, refuse, or_true, or_false, or_left, or_right, and_true, and_both, not_off, not_on, on_not, off_not}
+use Rattle.whole.specs.Tests.{cases, clash, refuse, or_true, or-false, or_left, or_right, and-true, and_both, not_off, not_on, on_not, off_not}
 use Rattle.whole.specs.Members.{in_single, in_head, in_append, in_left, in_right, some_true, some_none, apart_below}
 use Rattle.cost_laws.specs.Growth.{Network, Grown, component_grown}
 use Rattle.whole.specs.Masks.{these, without, bit_or_lem, bit_and_lem, bit_less, bit_single, bit_none, mem_these, these_below, first_in, turn, lowest_off}
@@ -69,15 +69,15 @@ module _ (masks : List ℕ) (net : Network 64 (near_by masks)) {aside : List ℕ
       let v = count_trailing_zeros 64 left in
       let m : mem v (these left) ≡ true = first_in left d l in
       let b = (turn left d l).below in
-      let p = and_true (bit around v) (not (bit seen v)) (sym (w.rest v b) ∙ sym (mem_these left v b) ∙ m) in
+      let p = and-true (bit around v) (not (bit seen v)) (sym (w.rest v b) ∙ sym (mem_these left v b) ∙ m) in
       sym (some_true (λ v. not (mem v (component (near_by masks) aside u))) v (these around) (mem_these around v b ∙ p.0)
       (not_off (refuse (mem v (component (near_by masks) aside u)) (λ t. clash (holds v t) (off_not (bit seen v) p.1)))))
     where
       holds : (k : ℕ) → mem k (component (near_by masks) aside u) ≡ true → bit seen k ≡ true
-      holds k t = (and_true (bit seen k) (not (mem k aside))
+      holds k t = (and-true (bit seen k) (not (mem k aside))
           (grown_u.least (λ k. bit seen k && not (mem k aside))
           (λ i j h li n mj.
-          let p = and_true (bit seen i) (not (mem i aside)) h in
+          let p = and-true (bit seen i) (not (mem i aside)) h in
           and_both (w.through i j li p.0 (off_not (mem i aside) p.1) (ap (λ (z : ℕ). bit z i) e ∙ bit_none i) n) (not_off mj))
           (λ k q. subst (λ (m : ℕ). (bit seen m && not (mem m aside)) ≡ true) (sym (in_single k u q)) (and_both w.start (not_off mu))) k t)).0
 
@@ -99,7 +99,7 @@ module _ (masks : List ℕ) (net : Network 64 (near_by masks)) {aside : List ℕ
 
     -- what is later was to do; what was to do is now or later
     later_todo : (k : ℕ) → k < 64 → bit (bit_and todo (todo - 1)) k ≡ true → bit todo k ≡ true
-    later_todo k b t = (and_true (bit todo k) (bit (todo - 1) k) (sym (bit_and_lem todo (todo - 1) k) ∙ t)).0
+    later_todo k b t = (and-true (bit todo k) (bit (todo - 1) k) (sym (bit_and_lem todo (todo - 1) k) ∙ t)).0
 
     todo_later : (k : ℕ) → k < 64 → bit todo k ≡ true → bit (bit_and todo (todo - 1)) k ≡ false → k ≡ count_trailing_zeros 64 todo
     todo_later = lowest_off todo d lt
@@ -111,7 +111,7 @@ module _ (masks : List ℕ) (net : Network 64 (near_by masks)) {aside : List ℕ
 
       new_is : (k : ℕ) → k < 64 → bit new k ≡ true → (mem k (near_by masks (count_trailing_zeros 64 todo)) ≡ true) × (bit seen k ≡ false)
       new_is k b t =
-          let p = and_true (bit mask k) (not (bit seen k)) (sym (bit_new k) ∙ t) in
+          let p = and-true (bit mask k) (not (bit seen k)) (sym (bit_new k) ∙ t) in
           (mem_these mask k b ∙ p.0, off_not (bit seen k) p.1)
 
       new_free : (k : ℕ) → k < 64 → bit new k ≡ true → mem k aside ≡ false
@@ -129,7 +129,7 @@ module _ (masks : List ℕ) (net : Network 64 (near_by masks)) {aside : List ℕ
             (λ q. let p = w.queued k b (later_todo k b q) in (bit_or_lem seen new k ∙ or_left (bit new k) p.0, p.1))
             (λ q. (bit_or_lem seen new k ∙ or_right (bit seen k) q, new_free k b q));
         through = λ i k b t m z n.
-            let off = or_false (bit later i) (bit new i) (sym (bit_or_lem later new i) ∙ z) in
+            let off = or-false (bit later i) (bit new i) (sym (bit_or_lem later new i) ∙ z) in
             let was : bit seen i ≡ true = or_true (bit seen i) (bit new i) (sym (bit_or_lem seen new i) ∙ t) (λ q. q) (λ q. clash q off.1) in
             bit_or_lem seen new k ∙ cases (bit todo i)
             (λ q.
@@ -156,7 +156,7 @@ module _ (masks : List ℕ) (net : Network 64 (near_by masks)) {aside : List ℕ
             go (no n) =
                 let m = first_in (bit_and seen new) n (and_lt 64 seen new ls new-low) in
                 let b = these_below (bit_and seen new) (count_trailing_zeros 64 (bit_and seen new)) m in
-                let p = and_true (bit seen (count_trailing_zeros 64 (bit_and seen new))) (bit new (count_trailing_zeros 64 (bit_and seen new)))
+                let p = and-true (bit seen (count_trailing_zeros 64 (bit_and seen new))) (bit new (count_trailing_zeros 64 (bit_and seen new)))
                 (sym (bit_and_lem seen new (count_trailing_zeros 64 (bit_and seen new))) ∙ sym (mem_these (bit_and seen new) (count_trailing_zeros 64 (bit_and seen new)) b) ∙ m) in
                 clash p.0 (new_is (count_trailing_zeros 64 (bit_and seen new)) b p.1).1
 

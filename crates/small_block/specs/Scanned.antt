@@ -2,7 +2,7 @@
 -- Assumes nothing.
 use Rattle.std.specs.Prelude.{◌≡◌, Bool, true, false, cond, ◌&&◌, ◌||◌, ℕ, ◌+◌, ◌^◌, ◌<◌, ◌≤◌, ltb}
 use Rattle.std.proofs.Common.{sym, ap, ◌∙◌, arith, lt-ltb, le-ltb}
-use Rattle.std.proofs.Math.Bool.{or_false}
+use Rattle.std.proofs.Math.Bool.{or-false}
 use Rattle.std.specs.Int.Bits.{bit_or}
 use Rattle.whole.specs.Words.{bit, upto, those}
 use Rattle.whole.specs.Members.{upto_in}
@@ -24,7 +24,7 @@ module _ (p : ℕ → Bool) (c m : ℕ) (w : Scanned p c m) where
   scanned_yes s e y k b = ap (λ (z : ℕ). bit (bit_or m z) k) e ∙ next true y k b
 
   pub scanned_no : p c ≡ false → Scanned p (c + 1) m
-  scanned_no y k b = sym (bit_or_lem m 0 k ∙ ap (λ (x : Bool). bit m k || x) (bit_none k) ∙ or_false (bit m k)) ∙ next false y k b
+  scanned_no y k b = sym (bit_or_lem m 0 k ∙ ap (λ (x : Bool). bit m k || x) (bit_none k) ∙ or-false (bit m k)) ∙ next false y k b
 
   pub scanned_all : c ≤ 64 → these m ≡ those p (upto c)
   scanned_all l =

@@ -9,7 +9,7 @@ use Rattle.std.specs.Int.Bits.{bit_and, bit_or}
 use Rattle.std.specs.Int.Count.{count_trailing_zeros}
 use Rattle.whole.specs.Words.{bit, mem, those}
 use Rattle.rules.specs.SmallBlock.{Block, component, is_cut, none, members, small, or_else, among, over_cuts, over_removed, search}
-use Rattle.whole.specs.Tests.{clash, refuse, and_true, same_test, or_true, or_left, or_right}
+use Rattle.whole.specs.Tests.{clash, refuse, and-true, same_test, or_true, or_left, or_right}
 use Rattle.whole.specs.Members.{in_append, in_left, in_right}
 use Rattle.whole.specs.Masks.{these, bit_or_lem, these_end, turn}
 use Rattle.small_block.specs.ByMasks.{block_by}
@@ -60,7 +60,7 @@ module _ {near : ℕ → List ℕ} {aside live : List ℕ} {rest seen : ℕ} (w 
       module _ (order : List ℕ) (count mask : ℕ) (g : GrownAs near aside (count_trailing_zeros 64 rest) order count mask) where
         pub seek_found : (leb 2 count && leb count 8) ≡ true → block_by order count ≡ among near aside aside live
         seek_found t =
-            let two : 2 ≤ count = leb-true 2 count (and_true (leb 2 count) (leb count 8) t).0 in
+            let two : 2 ≤ count = leb-true 2 count (and-true (leb 2 count) (leb count 8) t).0 in
             a_block order count (λ z. omega arith)
             ∙ ap members g.is
             ∙ sym (seek_step ∙ rw (seen_past false e, g.size, t))

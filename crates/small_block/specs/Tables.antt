@@ -3,7 +3,7 @@
 use Rattle.std.specs.Prelude.{◌≡◌, Bool, false, ◌&&◌, ◌||◌, List, [], ◌∷◌, ◌++◌, eqb, length, get_or, take, ℤ, pos}
 use Rattle.std.proofs.Math.Path.{sym, ap, ap₂, fun_ext}
 use Rattle.std.proofs.Common.{◌∙◌, subst, arith}
-use Rattle.std.proofs.Math.Bool.{not, and-false, and_comm, or_false, or_assoc}
+use Rattle.std.proofs.Math.Bool.{not, and-false, and_comm, or-false, or_assoc}
 use Prim.Native.Nat.{ℕ, ◌^◌, ◌<◌, ◌≤◌}
 use Rattle.std.proofs.Math.Decide.{dec_lt}
 use Rattle.std.specs.Int.Bits.{bit_or}
@@ -65,7 +65,7 @@ around_none masks = record { joins = λ k b. bit_none k; holds = λ k b. bit_non
 
 some_more : (p : ℕ → Bool) (xs : List ℕ) (i : ℕ) → some p (xs ++ i ∷ []) ≡ (some p xs || p i)
 unfolding some
-some_more p [] i = or_false (p i)
+some_more p [] i = or-false (p i)
 some_more p (x ∷ xs) i = ap (λ (b : Bool). p x || b) (some_more p xs i) ∙ sym (or_assoc (p x) (some p xs) (p i))
 
 module _ {masks passed : List ℕ} {joined own : ℕ} (w : Around masks passed joined own) where
@@ -73,7 +73,7 @@ module _ {masks passed : List ℕ} {joined own : ℕ} (w : Around masks passed j
   unfolding mem
   around_more i row one e o = record {
     joins = λ k b. bit_or_lem joined row k ∙ ap₂ (λ (x y : Bool). x || y) (w.joins k b) (ap (λ (z : ℕ). bit z k) e) ∙ sym (some_more (λ i. bit (get_or masks i 0) k) passed i);
-    holds = λ k b. bit_or_lem own one k ∙ ap₂ (λ (x y : Bool). x || y) (w.holds k b) (ap (λ (z : ℕ). bit z k) o ∙ bit_single i k ∙ sym (or_false (eqb k i))) ∙ sym (mem_append k passed (i ∷ []));
+    holds = λ k b. bit_or_lem own one k ∙ ap₂ (λ (x y : Bool). x || y) (w.holds k b) (ap (λ (z : ℕ). bit z k) o ∙ bit_single i k ∙ sym (or-false (eqb k i))) ∙ sym (mem_append k passed (i ∷ []));
   }
 
   pub around_boundary : (g : Graph) → g.n ≤ 64 → Shows g.n g.edges masks → these (without joined own) ≡ boundary g passed

@@ -1,4 +1,5 @@
 // The search for a small block, by the masks of the graph: bit j of near[i] is set where i and j are neighbours.
+#![tactic(auto)]
 ghost use Rattle.std.specs.Prelude.{◌≡◌, true, false, not, ◌&&◌, leb, eqb, List, ◌∷◌, ◌++◌, ℕ, ◌+◌, ◌^◌, ◌<◌, ◌≤◌, length, take, get_or, ℤ};
 ghost use Rattle.whole.specs.Words.{mem, bit, those, some, upto};
 ghost use Rattle.whole.specs.Masks.{these};
@@ -11,7 +12,7 @@ ghost use Rattle.small_block.specs.Explored.{GrownAs};
 ghost use Rattle.small_block.specs.Tables.{Boundary};
 
 // What was found, in growth order, and a mask of it and of what is set aside.
-#[derive(Drop)]
+#[derive(Clone, Copy)]
 pub struct Growth {
     pub order: [usize; 64],
     pub count: usize,

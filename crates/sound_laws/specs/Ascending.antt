@@ -3,7 +3,7 @@
 use Rattle.std.specs.Prelude.{◌≡◌, refl, Bool, true, false, cond, List, [], ◌∷◌, ℕ, zero, suc, ◌+◌, ◌*◌, ◌<◌, ◌≤◌, ◌^◌, ltb}
 use Rattle.std.proofs.Common.{arith, pow-suc, add-zero, zero-add, lt-ltb}
 use Rattle.whole.specs.Words.{from, upto, those, all, one_if, bits_from}
-use Rattle.whole.specs.Tests.{and_true, and_both}
+use Rattle.whole.specs.Tests.{and-true, and_both}
 use Rattle.whole.specs.Members.{all_of_lem, all_in, in_those, from_in}
 use Rattle.whole.specs.Counts.{shift}
 use Rattle.rules.specs.Record.{ascending}
@@ -16,7 +16,7 @@ all_those p q xs h = all_of_lem q (those p xs) (λ k m. all_in q xs h k (in_thos
 pub ascending_those : (p : ℕ → Bool) (xs : List ℕ) → ascending xs ≡ true → ascending (those p xs) ≡ true
 unfolding ascending those
 ascending_those p [] h = refl
-ascending_those p (x ∷ xs) h = let r = and_true (all (ltb x) xs) (ascending xs) h in go (p x) (all_those p (ltb x) xs r.0) (ascending_those p xs r.1)
+ascending_those p (x ∷ xs) h = let r = and-true (all (ltb x) xs) (ascending xs) h in go (p x) (all_those p (ltb x) xs r.0) (ascending_those p xs r.1)
   where
     go : (b : Bool) → all (ltb x) (those p xs) ≡ true → ascending (those p xs) ≡ true → ascending (cond b (x ∷ those p xs) (those p xs)) ≡ true
     go true h r = and_both h r

@@ -7,7 +7,7 @@ use mathlib.Core.List.{List, [], ◌∷◌}
 use Rattle.std.proofs.Math.Dec.{leb, eqb}
 use Rattle.std.proofs.Common.{leb-true, eqb-true}
 use Rattle.whole.specs.Words.{mem}
-use Rattle.whole.specs.Tests.{and_true}
+use Rattle.whole.specs.Tests.{and-true}
 use Rattle.whole.specs.Members.{in_head, in_tail}
 use Rattle.rules.specs.Graph.{Graph, active, neighbours, degree}
 use Rattle.rules.specs.DegreeThree.{cubic}
@@ -56,7 +56,7 @@ module _ (opt : Options) (g : Graph) (i : ℕ) where
     where
       test : (b : Bool) → (low_degree opt && degree_three opt && eqb (degree g i) 3) ≡ b → (c : Bool) → cubic g i ≡ c → Due g i (cond b (cond c failed three) idle)
       test true e true c = tt
-      test true e false c = (a, (eqb-true (degree g i) 3 (and_true (low_degree opt && degree_three opt) (eqb (degree g i) 3) e).1, c))
+      test true e false c = (a, (eqb-true (degree g i) 3 (and-true (low_degree opt && degree_three opt) (eqb (degree g i) 3) e).1, c))
       test false e c d = tt
 
   way_due : Due g i (way opt g i)
@@ -70,7 +70,7 @@ module _ (opt : Options) (g : Graph) (i : ℕ) where
       test : (b : Bool) → active g i ≡ b → (c : Bool) → (low_degree opt && leb (degree g i) 2) ≡ c
           → Due g i (cond (not b) inactive (cond c low (or_three opt g i (cond (dominant_edge opt) (dominant g i) nothing))))
       test false e c d = tt
-      test true e true d = (e, leb-true (degree g i) 2 (and_true (low_degree opt) (leb (degree g i) 2) d).1)
+      test true e true d = (e, leb-true (degree g i) 2 (and-true (low_degree opt) (leb (degree g i) 2) d).1)
       test true e false d = or_three_due e (cond (dominant_edge opt) (dominant g i) nothing) (found (dominant_edge opt))
 
 -- ---- the run

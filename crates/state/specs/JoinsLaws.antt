@@ -8,7 +8,7 @@ use mathlib.Core.List.{List, [], ◌∷◌, ◌++◌, append-nil, append_assoc}
 use Rattle.whole.specs.Masks.{these, these_apart, these_less, those_ext, those_those, without, bit_less, mem_these, these_below}
 use Rattle.whole.specs.Those.{those_upto}
 use Rattle.whole.specs.Words.{bit, from, upto, mem, those}
-use Rattle.whole.specs.Tests.{refuse, and_true, clash, cases}
+use Rattle.whole.specs.Tests.{refuse, and-true, clash, cases}
 use Rattle.whole.specs.Members.{in_left, in_those, out_both, apart_new, apart_tail, differ, out_of_cons}
 use Rattle.whole.specs.Pigeon.{Apart}
 use Rattle.rules.specs.Options.{low_degree, degree_three, dominant_edge}

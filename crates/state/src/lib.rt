@@ -1,4 +1,5 @@
 // A state of the run by value: the frame of its graph and what it has counted. The weights, the masks and the states stay in their arrays, the queue in the pass.
+#![tactic(auto)]
 ghost use Rattle.std.specs.Prelude.{◌≡◌, ◌+◌, ◌<◌};
 ghost use Rattle.rules.specs.Counts.{plus};
 ghost use Rattle.state.specs.Counting.{counts, Countable, OfUnit};
@@ -9,7 +10,7 @@ use rules::Tally;
 pub mod steps; // the steps so far
 pub mod waiting; // who waits
 
-#[derive(Drop)]
+#[derive(Clone, Copy)]
 pub struct State {
     pub frame: Frame,
     pub tally: Tally,
@@ -18,7 +19,7 @@ pub struct State {
 }
 
 // What a take does with its decision. Contracted: weakly or not.
-#[derive(Drop)]
+#[derive(Clone, Copy)]
 pub enum Did {
     Nothing,
     Skipped,

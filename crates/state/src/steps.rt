@@ -7,7 +7,7 @@ ghost use Rattle.state.specs.Steps.{StepsKept};
 use rules::Step;
 
 // The first `count` of 64 places; the others are empty.
-#[derive(Drop)]
+#[derive(Clone, Copy)]
 pub struct Steps {
     pub list: [Step; 64],
     pub count: usize,

@@ -1,4 +1,5 @@
 // A take: which way its decision goes, and what is then done with it.
+#![tactic(auto)]
 ghost use Rattle.std.specs.Prelude.{◌≡◌, false, cond, ◌<◌, ◌≤◌, get_or};
 ghost use Rattle.rules.specs.DegreeThree.{cubic};
 ghost use Rattle.rules.specs.DominantEdge.{weak as isWeak};
@@ -17,7 +18,7 @@ use state::Did;
 pub mod way; // which way it goes
 
 // What a take did: the frame that it left; and where it made a step, that step and a mask of the neighbours as they were, who may rejoin.
-#[derive(Drop)]
+#[derive(Clone, Copy)]
 pub struct Taken {
     pub did: Did,
     pub stepped: bool,

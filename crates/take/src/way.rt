@@ -12,7 +12,7 @@ use graph::Near;
 use rules::Options;
 
 // Into: the dominant neighbour, and whether it is a weak one. Three: it is tried.
-#[derive(Drop)]
+#[derive(Clone, Copy)]
 pub enum Way {
     Inactive,
     Low,

@@ -8,7 +8,7 @@ use lists::{fill, place, told};
 use rules::Reduction;
 
 // `N SWITCHES BUDGET LINEAR EDGES;`
-#[derive(Drop)]
+#[derive(Clone, Copy)]
 struct Asked {
     n: u32,
     switches: u32,
@@ -18,7 +18,7 @@ struct Asked {
     next: usize,
 }
 
-#[derive(Drop)]
+#[derive(Clone, Copy)]
 struct Narrow {
     value: u32,
     next: usize,
@@ -216,7 +216,7 @@ fn agrees_with(
 }
 
 // How much each list holds.
-#[derive(Drop)]
+#[derive(Clone, Copy)]
 struct Long {
     weights: usize,
     firsts: usize,

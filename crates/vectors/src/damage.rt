@@ -4,7 +4,7 @@ ghost use Rattle.std.specs.Prelude.{◌<◌, ◌≤◌};
 use lists::place::LOST;
 use lists::{fill, place};
 
-#[derive(Drop)]
+#[derive(Clone, Copy)]
 pub struct Damaged {
     pub length: u64,
     pub next: usize,
@@ -57,7 +57,7 @@ fn put_edits(line: &[u8], at: usize, block: &mut [u8]) -> usize {
     LOST
 }
 
-#[derive(Drop)]
+#[derive(Clone, Copy)]
 struct Sums {
     one: u64,
     two: u64,

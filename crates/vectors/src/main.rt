@@ -1,4 +1,5 @@
 // Runs the stored lists and writes how many entries of each ran and agreed.
+#![tactic(auto)]
 use libc::STDOUT_FILENO;
 
 mod plans; // back.txt

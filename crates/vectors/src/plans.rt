@@ -51,7 +51,7 @@ fn called(kind: u64, block: &[u8], lent: &[u8], out: &mut [u8]) -> u8 {
 }
 
 // The lengths that an entry asks for.
-#[derive(Drop)]
+#[derive(Clone, Copy)]
 struct Long {
     block: u64,
     lent: usize,

@@ -3,7 +3,7 @@ ghost use Rattle.std.specs.Prelude.{◌≤◌, length};
 
 use crate::{calls, objectives, passed, plans, records, texts};
 
-#[derive(Drop)]
+#[derive(Clone, Copy)]
 pub enum Kind {
     Records,
     Passed,
@@ -15,14 +15,14 @@ pub enum Kind {
 }
 
 // How many ran, how many agreed, and the first that does not.
-#[derive(Drop)]
+#[derive(Clone, Copy)]
 pub struct Tally {
     pub ran: u64,
     pub agreed: u64,
     pub first: u64,
 }
 
-#[derive(Drop)]
+#[derive(Clone, Copy)]
 pub struct Part {
     pub tally: Tally,
     pub used: usize,

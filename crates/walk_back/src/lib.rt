@@ -1,4 +1,5 @@
 // "then the steps last to first, each by its choice": a thin walk over a lent slice of steps.
+#![tactic(auto)]
 ghost use Rattle.std.specs.Prelude.{◌≡◌, map};
 ghost use Rattle.rules.specs.Record.{played};
 ghost use Rattle.rules.specs.Back.{play_all};

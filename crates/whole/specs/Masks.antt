@@ -2,7 +2,7 @@
 -- Assumes nothing.
 use Rattle.std.specs.Prelude.{◌≡◌, refl, Bool, true, false, cond, not, ◌&&◌, ◌||◌, List, [], ◌∷◌, ◌++◌, ◌≢◌, ℕ, zero, suc, ◌+◌, ◌*◌, ◌-◌, ◌/◌, ◌%◌, ◌^◌, ◌<◌, ◌≤◌, min, max, ltb, eqb, length, take, set}
 use Rattle.std.proofs.Common.{sym, ap, ap₂, ◌∙◌, append_assoc, arith, pow-suc, mod-eq_of_lt, one-mul, mul_comm, div-one, add-zero, zero-add, add-one, take-suc-set, lt-ltb, le-ltb, ltb-true, ne_eqb, eq-eqb, eqb-true}
-use Rattle.std.proofs.Math.Bool.{and_true as and_yes, and-false, or_false}
+use Rattle.std.proofs.Math.Bool.{and-true as and_yes, and-false, or-false}
 use Rattle.std.proofs.Math.Nat.{div-div-eq-div-mul, div-eq_of_lt, sub_self, pow-le-pow_right}
 use Rattle.std.proofs.Math.Dec.{eqb-suc-suc}
 use Rattle.std.specs.Int.Bits.{bit_and, bit_or, bit_xor, differ, and_step, or_step, xor_step, and_self}
@@ -14,7 +14,7 @@ use Rattle.whole.specs.Words.{odd, bit, from, upto, mem, those, all}
 use Rattle.whole.specs.Members.{in_head, in_tail, mem_those, in_those, from_in, in_upto, upto_in, apart_those, apart_upto, in_cons, all_of_lem, all_in}
 use Rattle.whole.specs.Pigeon.{Apart}
 use Rattle.whole.specs.Counts.{shift}
-use Rattle.whole.specs.Tests.{clash, cases, and_true, not_off, off_not, same_test}
+use Rattle.whole.specs.Tests.{clash, cases, and-true, not_off, off_not, same_test}
 
 -- the decisions of a mask, ascending
 unfoldable pub these : ℕ → List ℕ
@@ -289,7 +289,7 @@ module _ (p : ℕ → Bool) where
           rw (t, le-ltb k c (omega arith), lt-ltb k (c + 1) (omega arith), e) (and_yes (p c))
 
       there : eqb k c ≡ false → ((ltb k c && p k) || (p c && eqb k c)) ≡ (ltb k (c + 1) && p k)
-      there t = rw (t, and-false (p c), or_false (ltb k c && p k)) (ap (λ (b : Bool). b && p k) (same_test (ltb k c) (ltb k (c + 1))
+      there t = rw (t, and-false (p c), or-false (ltb k c && p k)) (ap (λ (b : Bool). b && p k) (same_test (ltb k c) (ltb k (c + 1))
           (λ b. lt-ltb k (c + 1) (omega (arith, ltb-true k c b))) (λ b. lt-ltb k c (omega (arith, ltb-true k (c + 1) b, eqb-false k c t)))))
 
   pub none_passes : (n m : ℕ) → m < 2 ^ 64 → ((k : ℕ) → bit m k ≡ (ltb k n && p k)) → eqb m 0 ≡ all (λ k. not (p k)) (upto n)
@@ -298,7 +298,7 @@ module _ (p : ℕ → Bool) where
       (λ a. cases (eqb m 0) (λ z. z) (λ z.
       let d = eqb-false m 0 z in
       let k = count_trailing_zeros 64 m in
-      let y = and_true (ltb k n) (p k) (sym (h k) ∙ sym (mem_these m k (these_below m k (first_in m d l))) ∙ first_in m d l) in
+      let y = and-true (ltb k n) (p k) (sym (h k) ∙ sym (mem_these m k (these_below m k (first_in m d l))) ∙ first_in m d l) in
       clash y.1 (off_not (p k) (all_in (λ k. not (p k)) (upto n) a k (in_upto k n (ltb-true k n y.0))))))
 
 -- a mask has none from 64 on

@@ -6,7 +6,7 @@ use Rattle.std.proofs.Math.Decide.{dec_lt}
 use Rattle.std.proofs.Math.ListN.{get_or-eq_default}
 use Rattle.std.proofs.lemmas.Bool.{eqb-false}
 use Rattle.whole.specs.Words.{from, upto, mem, those, some, all}
-use Rattle.whole.specs.Tests.{cases, clash, or_true, or_false, or_left, or_right, or_none, and_true, and_both, refuse}
+use Rattle.whole.specs.Tests.{cases, clash, or_true, or-false, or_left, or_right, or_none, and-true, and_both, refuse}
 use Rattle.whole.specs.Different.{Apart, none, one}
 
 -- ---- membership
@@ -34,7 +34,7 @@ pub in_right : (k : ℕ) (xs ys : List ℕ) → mem k ys ≡ true → mem k (xs 
 in_right k xs ys h = mem_append k xs ys ∙ or_right (mem k xs) h
 
 pub out_append : (k : ℕ) (xs ys : List ℕ) → mem k (xs ++ ys) ≡ false → (mem k xs ≡ false) × (mem k ys ≡ false)
-out_append k xs ys h = or_false (mem k xs) (mem k ys) (sym (mem_append k xs ys) ∙ h)
+out_append k xs ys h = or-false (mem k xs) (mem k ys) (sym (mem_append k xs ys) ∙ h)
 
 pub out_both : (k : ℕ) (xs ys : List ℕ) → mem k xs ≡ false → mem k ys ≡ false → mem k (xs ++ ys) ≡ false
 out_both k xs ys p q = mem_append k xs ys ∙ or_none p q
@@ -57,7 +57,7 @@ in_tail k x xs h = or_right (eqb k x) h
 
 pub out_cons : (k x : ℕ) (xs : List ℕ) → mem k (x ∷ xs) ≡ false → (k ≢ x) × (mem k xs ≡ false)
 unfolding mem
-out_cons k x xs h = let p = or_false (eqb k x) (mem k xs) h in (eqb-false k x p.0, p.1)
+out_cons k x xs h = let p = or-false (eqb k x) (mem k xs) h in (eqb-false k x p.0, p.1)
 
 pub out_of_cons : (k x : ℕ) (xs : List ℕ) → k ≢ x → mem k xs ≡ false → mem k (x ∷ xs) ≡ false
 unfolding mem
@@ -87,7 +87,7 @@ mem_those p k (x ∷ xs) = go (p x) refl (eqb k x) refl (mem_those p k xs)
     go false h false e r = r
 
 pub in_those : (p : ℕ → Bool) (k : ℕ) (xs : List ℕ) → mem k (those p xs) ≡ true → (mem k xs ≡ true) × (p k ≡ true)
-in_those p k xs h = and_true (mem k xs) (p k) (sym (mem_those p k xs) ∙ h)
+in_those p k xs h = and-true (mem k xs) (p k) (sym (mem_those p k xs) ∙ h)
 
 pub to_those : (p : ℕ → Bool) (k : ℕ) (xs : List ℕ) → mem k xs ≡ true → p k ≡ true → mem k (those p xs) ≡ true
 to_those p k xs h q = mem_those p k xs ∙ and_both h q
@@ -141,7 +141,7 @@ all_of_lem p (x ∷ xs) h = and_both (h x (in_head x xs)) (all_of_lem p xs (λ k
 pub all_in : (p : ℕ → Bool) (xs : List ℕ) → all p xs ≡ true → (k : ℕ) → mem k xs ≡ true → p k ≡ true
 unfolding all
 all_in p [] h k m = nobody k m
-all_in p (x ∷ xs) h k m = let r = and_true (p x) (all p xs) h in in_cons k x xs m (λ e. ap p e ∙ r.0) (λ t. all_in p xs r.1 k t)
+all_in p (x ∷ xs) h k m = let r = and-true (p x) (all p xs) h in in_cons k x xs m (λ e. ap p e ∙ r.0) (λ t. all_in p xs r.1 k t)
 
 -- ---- different decisions below n
 pub apart_head : {n x : ℕ} {xs : List ℕ} → Apart n (x ∷ xs) → x < n

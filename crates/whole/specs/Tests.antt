@@ -27,9 +27,9 @@ pub or_true : (a b : Bool) {P : Type 0} → (a || b) ≡ true → (a ≡ true �
 or_true true b h p q = p refl
 or_true false b h p q = q h
 
-pub or_false : (a b : Bool) → (a || b) ≡ false → (a ≡ false) × (b ≡ false)
-or_false true b h = clash refl h
-or_false false b h = (refl, h)
+pub or-false : (a b : Bool) → (a || b) ≡ false → (a ≡ false) × (b ≡ false)
+or-false true b h = clash refl h
+or-false false b h = (refl, h)
 
 pub or_left : {a : Bool} (b : Bool) → a ≡ true → (a || b) ≡ true
 or_left b h = ap (λ (c : Bool). c || b) h
@@ -41,9 +41,9 @@ or_right false h = h
 pub or_none : {a b : Bool} → a ≡ false → b ≡ false → (a || b) ≡ false
 or_none {b = b} p q = ap (λ (c : Bool). c || b) p ∙ q
 
-pub and_true : (a b : Bool) → (a && b) ≡ true → (a ≡ true) × (b ≡ true)
-and_true true b h = (refl, h)
-and_true false b h = clash h refl
+pub and-true : (a b : Bool) → (a && b) ≡ true → (a ≡ true) × (b ≡ true)
+and-true true b h = (refl, h)
+and-true false b h = clash h refl
 
 pub and_both : {a b : Bool} → a ≡ true → b ≡ true → (a && b) ≡ true
 and_both {b = b} p q = ap (λ (c : Bool). c && b) p ∙ q

@@ -1,4 +1,5 @@
 // Writers of what the program answers: into a lent slice, from a place on, giving the place after.
+#![tactic(auto)]
 ghost use Rattle.std.specs.Prelude.{◌≡◌, true, ◌++◌, ◌+◌, ◌^◌, ◌<◌, ◌≤◌, length, take};
 ghost use Rattle.rules.specs.WriteText.{listed, listed_z, edge_if, edge_line, edge_lines, choices_of, step_line, step_lines, written, written_refusal};
 ghost use Rattle.rules.specs.Record.{played, steps_of};
@@ -135,7 +136,7 @@ fn put_steps(out: &mut [u8], at: usize, record: Record) -> usize
 }
 
 // Decisions at the front of a list.
-#[derive(Drop)]
+#[derive(Clone, Copy)]
 struct Decisions {
     list: [u8; 64],
     len: usize,

@@ -1,5 +1,5 @@
 use mathlib.Core.Path.{◌≡◌, ap, ◌∙◌}
-use mathlib.Core.Bool.{Bool, true, not, ◌&&◌, and_assoc, and_true}
+use mathlib.Core.Bool.{Bool, true, not, ◌&&◌, and_assoc, and-true}
 use mathlib.Core.List.{[], ◌∷◌}
 use native.Mathlib.Omega.{arith}
 use borrow.Author.Rules.{rules}
@@ -30,7 +30,7 @@ steps-fine-requires c κs =
 -- the tests in the order of the rules
 in_order : (c k z a b u : Bool) → (c && (k && (z && (a && b && u)))) ≡ all_of (true ∷ true ∷ c ∷ k ∷ z ∷ a ∷ b ∷ u ∷ [])
 unfolding all_of
-in_order c k z a b u = simp (and_assoc, and_true)
+in_order c k z a b u = simp (and_assoc, and-true)
 
 returns-3 : tie.Need-returns-3
 unfolding sound

@@ -1,6 +1,6 @@
 use Prim.Native.Nat.{ℕ, ◌+◌, ◌-◌, ◌<◌, ◌≤◌}
 use mathlib.Core.Path.{◌≡◌, ◌∙◌, ap, ap₂, sym, refl, subst}
-use mathlib.Core.Bool.{Bool, ◌||◌, or_false}
+use mathlib.Core.Bool.{Bool, ◌||◌, or-false}
 use mathlib.Core.List.{List, [], ◌∷◌, ◌++◌}
 use native.Mathlib.Omega.{arith}
 use borrow.Author.Rules.{rules}
@@ -36,7 +36,7 @@ loop-holds c =
         growing = grow_begins 64 (near_by a.near.now) p.0 (a.c ∷ removed_by a.removed) a.seed p.2 p.3;
         leads = refl;
         marks = λ k b. bit_or_lem c.before.set-aside.result c.single.result k
-            ∙ ap₂ (λ (x y : Bool). x || y) (c.before.set-aside.ensures k b) (ap (λ (z : ℕ). bit z k) c.single.ensures ∙ bit_single a.seed k ∙ sym (or_false (eqb k a.seed)))
+            ∙ ap₂ (λ (x y : Bool). x || y) (c.before.set-aside.ensures k b) (ap (λ (z : ℕ). bit z k) c.single.ensures ∙ bit_single a.seed k ∙ sym (or-false (eqb k a.seed)))
             ∙ sym (mem_append k (a.c ∷ removed_by a.removed) (a.seed ∷ []));
       },
     )

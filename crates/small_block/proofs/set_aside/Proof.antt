@@ -1,6 +1,6 @@
 use borrow.Author.Rules.{rules}
 use mathlib.Core.Path.{◌≡◌, ◌∙◌, ap, ap₂, sym}
-use mathlib.Core.Bool.{Bool, cond, ◌||◌, or_false}
+use mathlib.Core.Bool.{Bool, cond, ◌||◌, or-false}
 use mathlib.Core.List.{[], ◌∷◌}
 use Prim.Native.Nat.{ℕ, ◌^◌}
 use lib.Dec.{eqb}
@@ -20,14 +20,14 @@ returns c k b =
     let a = c.before.before.before.args in
     bit_or_lem c.before.single.result c.single2.result k
     ∙ ap₂ (λ (p q : Bool). p || q) (one_bit c.before.single.result a.c k c.before.single.ensures)
-    (one_bit c.single2.result a.removed k c.single2.ensures ∙ sym (or_false (eqb k a.removed))
+    (one_bit c.single2.result a.removed k c.single2.ensures ∙ sym (or-false (eqb k a.removed))
     ∙ ap (λ (t : Bool). mem k (cond t (a.removed ∷ []) [])) (sym (lt-ltb a.removed 64 c.before.before.if1.true)))
 
 returns-2 : tie.Need-returns-2
 unfolding mem
 returns-2 c k b =
     let a = c.before.before.args in
-    one_bit c.single3.result a.c k c.single3.ensures ∙ sym (or_false (eqb k a.c))
+    one_bit c.single3.result a.c k c.single3.ensures ∙ sym (or-false (eqb k a.c))
     ∙ ap (λ (t : Bool). eqb k a.c || mem k (cond t (a.removed ∷ []) [])) (sym (le-ltb a.removed 64 c.before.if1.false))
 
 pub set-aside-spec : {M : Type 1} → statement M

@@ -7,7 +7,7 @@ use lib.Dec.{leb, eqb}
 use lib.IntN.{ℤ}
 use borrow.Author.Rules.{rules}
 use borrow.Author.Tests.{leb-true, eqb-true}
-use Rattle.whole.specs.Tests.{and_true}
+use Rattle.whole.specs.Tests.{and-true}
 use Rattle.rules.specs.Options.{low_degree, degree_three}
 use Rattle.rules.specs.Graph.{Graph, graph, degree}
 use Rattle.rules.specs.DominantEdge.{nothing}
@@ -48,7 +48,7 @@ returns-2 c = λ n k f h e.
     let low : (low_degree a.options && leb a.near.count 2) ≡ true = sym l.is-low.ensures ∙ c.if2.true in
     record {
       is = way_low a.options (whole s n k) a.i l.before.if1.false (by_low s n k e low);
-      fitting = leb-true a.near.count 2 (and_true (low_degree a.options) (leb a.near.count 2) low).1;
+      fitting = leb-true a.near.count 2 (and-true (low_degree a.options) (leb a.near.count 2) low).1;
     }
 
 dominant-if-requires : tie.Need-dominant-if-requires
@@ -97,7 +97,7 @@ returns-4 c = λ n k f h e.
     let three : (low_degree a.options && degree_three a.options && eqb a.near.count 3) ≡ true = sym q.is-three.ensures ∙ c.if3.true in
     record {
       is = way_three a.options (whole s n k) a.i d.before.before.before.before.if1.false (high d n k f h e) (nobody t n k f h e) (by_three s n k e three);
-      fitting = eqb-true a.near.count 3 (and_true (low_degree a.options && degree_three a.options) (eqb a.near.count 3) three).1;
+      fitting = eqb-true a.near.count 3 (and-true (low_degree a.options && degree_three a.options) (eqb a.near.count 3) three).1;
     }
 
 returns-5 : tie.Need-returns-5
