@@ -1,5 +1,6 @@
 // Numbers as decimal text: read from a place of a slice on, and written into a lent one.
 #![tactic(auto)]
+
 ghost use Rattle.std.specs.Prelude.{◌≡◌, ◌++◌, ℕ, ◌+◌, ◌*◌, ◌≤◌, leb, length, drop, ℤ, pos, neg_ℤ, nat_abs};
 ghost use Rattle.rules.specs.ReadText.{digit, number, weight};
 ghost use Rattle.rules.specs.WriteText.{decimal, shown, shown_z};

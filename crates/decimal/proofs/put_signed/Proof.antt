@@ -11,35 +11,34 @@ use Rattle.decimal.specs.Puts.{◌then◌}
 use Rattle.decimal.proofs.put_signed.Statement.{statement}
 use Rattle.decimal.proofs.put_signed.Tie as tie
 
-below : (c : tie.Then1) → shown_z c.before.before.before.before.args.w ≡ 45 ∷ shown c.before.magnitude.result
+below : (c : tie.Then-w-lt0) → shown_z c.args.w ≡ 45 ∷ shown c.magnitude-m.result
 below c =
-    let s = c.before.before.before.before in
+    let s = c in
     let f = rd s.ranges.w in
-    signed_less s.args.w (rw f at c.if1.true) ∙ ap (λ m. 45 ∷ shown m) (sym (c.before.magnitude.ensures ∙ ap nat_abs f))
+    signed_less s.args.w (rw f at c.if-w-lt0.true) ∙ ap (λ m. 45 ∷ shown m) (sym (c.magnitude-m.ensures ∙ ap nat_abs f))
 
-above : (c : tie.Else1) → shown_z c.before.before.before.before.args.w ≡ shown c.before.magnitude.result
+above : (c : tie.Else-w-lt0) → shown_z c.args.w ≡ shown c.magnitude-m.result
 above c =
-    let s = c.before.before.before.before in
+    let s = c in
     let f = rd s.ranges.w in
-    signed_plain s.args.w (rw f at c.if1.false) ∙ ap shown (sym (c.before.magnitude.ensures ∙ ap nat_abs f))
+    signed_plain s.args.w (rw f at c.if-w-lt0.false) ∙ ap shown (sym (c.magnitude-m.ensures ∙ ap nat_abs f))
 
-returns : tie.Need-returns
+returns : tie.Need-returns-then-w-lt0
 returns c =
-    let z = c.before.before in
-    let y = z.before.before.before.before.before in
-    rw (below y.before.before) (y.put.ensures then z.put-number.ensures)
+    let z = c in
+    let y = z in
+    rw (below y.before.before.before.before.before.before.before.before.before.before) (y.put-p.ensures then z.put_number.ensures)
 
-returns-2 : tie.Need-returns-2
-returns-2 c = let z = c.before.before in rw (above z.before.before) z.put-number2.ensures
+returns-2 : tie.Need-returns-else-w-lt0
+returns-2 c = let z = c in rw (above z.before.before.before.before) z.put_number-else-w-lt0.ensures
 
-pub put-signed-spec : {M : Type 1} → statement M
-put-signed-spec =
+pub put_signed_spec : {M : Type 1} → statement M
+put_signed_spec =
     tie.close
     (tie.spec
     (λ c κs. search rules)
     (λ c κs. omega (arith, ap length (below c.before)))
-    (λ c. search rules)
-    (λ c κs. omega (arith, ap length (below c.before.before.before.before.before.before)))
+    (λ c κs. omega (arith, ap length (below c.before.before.before.before.before.before.before)))
     (λ c κs. omega (arith, ap length (above c.before)))
     (λ c. search rules)
     returns
