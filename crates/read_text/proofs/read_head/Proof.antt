@@ -3,47 +3,47 @@ use Rattle.rules.specs.ReadText.{head}
 use Rattle.read_text.proofs.read_head.Statement.{statement}
 use Rattle.read_text.proofs.read_head.Tie as tie
 
-returns : tie.Need-returns
+returns : tie.Need-returns-in_default
 unfolding head
 returns c =
-    let w = c.before.before in
-    rw (← (rw c.enum_told.given.1 at w.read_u32.ensures))
+    let w = c in
+    rw (← (rw c.enum_told-1.given.1 at w.read_u32.ensures))
 
-returns-2 : tie.Need-returns-2
+returns-2 : tie.Need-returns-in_default-read_u32
 unfolding head
 returns-2 c =
-    let x = c.before.before in
-    let w = x.before.before.before.before in
-    rw (← (rw x.before.before.n.given.1 at w.read_u32.ensures), ← (rw c.enum-told2.given.1 at x.read-u322.ensures))
+    let x = c in
+    let w = x in
+    rw (← (rw x.n-1.given.1 at w.read_u32.ensures), ← (rw c.enum_told-in_default-read_u32-1.given.1 at x.read_u32-2.ensures))
 
-returns-3 : tie.Need-returns-3
+returns-3 : tie.Need-returns-in_default-read_u32-2
 unfolding head
 returns-3 c =
-    let y = c.before.before in
-    let x = y.before.before.before.before in
-    let w = x.before.before.before.before in
-    rw (← (rw x.before.before.n.given.1 at w.read_u32.ensures), ← (rw y.before.before.switches.given.1 at x.read-u322.ensures), ← (rw c.enum-told3.given.1 at y.read-u323.ensures))
+    let y = c in
+    let x = y in
+    let w = x in
+    rw (← (rw x.n-1.given.1 at w.read_u32.ensures), ← (rw y.switches-1.given.1 at x.read_u32-2.ensures), ← (rw c.enum_told-in_default-read_u32-2-1.given.1 at y.read_u32-3.ensures))
 
-returns-4 : tie.Need-returns-4
+returns-4 : tie.Need-returns-in_default-read_u32-3
 unfolding head
 returns-4 c =
-    let z = c.before.before in
-    let y = z.before.before.before.before in
-    let x = y.before.before.before.before in
-    let w = x.before.before.before.before in
-    rw (← (rw x.before.before.n.given.1 at w.read_u32.ensures), ← (rw y.before.before.switches.given.1 at x.read-u322.ensures), ← (rw z.before.before.budget.given.1 at y.read-u323.ensures), ← (rw c.enum-told4.given.1 at z.read-u324.ensures))
+    let z = c in
+    let y = z in
+    let x = y in
+    let w = x in
+    rw (← (rw x.n-1.given.1 at w.read_u32.ensures), ← (rw y.switches-1.given.1 at x.read_u32-2.ensures), ← (rw z.budget-1.given.1 at y.read_u32-3.ensures), ← (rw c.enum_told-in_default-read_u32-3-1.given.1 at z.read_u32-4.ensures))
 
-returns-5 : tie.Need-returns-5
+returns-5 : tie.Need-returns
 unfolding head
 returns-5 c =
-    let z = c.before.before.before in
-    let y = z.before.before.before.before in
-    let x = y.before.before.before.before in
-    let w = x.before.before.before.before in
-    rw (← (rw x.before.before.n.given.1 at w.read_u32.ensures), ← (rw y.before.before.switches.given.1 at x.read-u322.ensures), ← (rw z.before.before.budget.given.1 at y.read-u323.ensures), ← (rw c.before.terms.given.1 at z.read-u324.ensures))
+    let z = c in
+    let y = z in
+    let x = y in
+    let w = x in
+    rw (← (rw x.n-1.given.1 at w.read_u32.ensures), ← (rw y.switches-1.given.1 at x.read_u32-2.ensures), ← (rw z.budget-1.given.1 at y.read_u32-3.ensures), ← (rw c.terms-1.given.1 at z.read_u32-4.ensures))
 
-pub read-head-spec : {M : Type 1} → statement M
-read-head-spec =
+pub read_head_spec : {M : Type 1} → statement M
+read_head_spec =
     tie.close
     (tie.spec
     (λ c κs. search rules)

@@ -13,48 +13,48 @@ use Rattle.whole.specs.Stores.{front_more}
 use Rattle.read_text.proofs.read_terms.Statement.{statement}
 use Rattle.read_text.proofs.read_terms.Tie as tie
 
-abbrev invariant-loop : tie.invariant-loop
+abbrev invariant-loop : tie.invariant-loop-m
 invariant-loop text at k firsts₀ seconds₀ weights₀ p₀ m₀ firsts seconds weights p m = (m ≤ k) × (length firsts ≡ 1024) × (length seconds ≡ 1024) × (length weights ≡ 1024) × (terms [] [] [] k (drop at text) ≡ terms (take m firsts) (take m seconds) (take m weights) (k - m) (drop p text))
 
-abbrev decreases-loop : tie.decreases-loop
+abbrev decreases-loop : tie.decreases-loop-m
 decreases-loop text at k firsts₀ seconds₀ weights₀ p₀ m₀ firsts seconds weights p m = k - m
 
-loop-holds : tie.Need-loop-init invariant-loop decreases-loop
+loop-holds : tie.Need-loop-m-init invariant-loop decreases-loop
 loop-holds c =
-    let p = c.before.requires in (omega arith, p.1, p.2, p.3, let e : c.before.args.k - 0 ≡ c.before.args.k = omega arith in rw e)
+    let p = c.requires in (omega arith, p.1, p.2, p.3, let e : c.args.k - 0 ≡ c.args.k = omega arith in rw e)
 
-returns : tie.Need-returns invariant-loop decreases-loop
+returns : tie.Need-returns-in_default invariant-loop decreases-loop
 returns c =
-    let x = c.before.before in
-    let l = x.before.before.loop in
-    let a = x.before.before.before.before.args in
-    rw (l.invariant.4, terms_step (take l.m l.firsts) (take l.m l.seconds) (take l.m l.weights) a.k l.m (drop l.p a.text.now) (omega arith), ← (rw c.enum_told.given.1 at x.read_u32.ensures))
+    let x = c in
+    let l = x.loop-m in
+    let a = x.args in
+    rw (l.invariant.4, terms_step (take l.m l.firsts) (take l.m l.seconds) (take l.m l.weights) a.k l.m (drop l.p a.text.now) (omega arith), ← (rw c.enum_told-1.given.1 at x.read_u32.ensures))
 
-returns-2 : tie.Need-returns-2 invariant-loop decreases-loop
+returns-2 : tie.Need-returns-in_default-read_u32 invariant-loop decreases-loop
 returns-2 c =
-    let y = c.before.before in
-    let x = y.before.before.before.before in
-    let l = x.before.before.loop in
-    let a = x.before.before.before.before.args in
-    rw (l.invariant.4, terms_step (take l.m l.firsts) (take l.m l.seconds) (take l.m l.weights) a.k l.m (drop l.p a.text.now) (omega arith), ← (rw y.before.before.i.given.1 at x.read_u32.ensures), ← (rw c.enum-told2.given.1 at y.read-u322.ensures))
+    let y = c in
+    let x = y in
+    let l = x.loop-m in
+    let a = x.args in
+    rw (l.invariant.4, terms_step (take l.m l.firsts) (take l.m l.seconds) (take l.m l.weights) a.k l.m (drop l.p a.text.now) (omega arith), ← (rw y.i-1.given.1 at x.read_u32.ensures), ← (rw c.enum_told-in_default-read_u32-1.given.1 at y.read_u32-in-loop-m.ensures))
 
-returns-3 : tie.Need-returns-3 invariant-loop decreases-loop
+returns-3 : tie.Need-returns-in_default-read_signed invariant-loop decreases-loop
 returns-3 c =
-    let z = c.before.before in
-    let y = z.before.before.before.before in
-    let x = y.before.before.before.before in
-    let l = x.before.before.loop in
-    let a = x.before.before.before.before.args in
-    rw (l.invariant.4, terms_step (take l.m l.firsts) (take l.m l.seconds) (take l.m l.weights) a.k l.m (drop l.p a.text.now) (omega arith), ← (rw y.before.before.i.given.1 at x.read_u32.ensures), ← (rw z.before.before.j.given.1 at y.read-u322.ensures), ← (rw c.enum-told3.given.1 at z.read-signed.ensures))
+    let z = c in
+    let y = z in
+    let x = y in
+    let l = x.loop-m in
+    let a = x.args in
+    rw (l.invariant.4, terms_step (take l.m l.firsts) (take l.m l.seconds) (take l.m l.weights) a.k l.m (drop l.p a.text.now) (omega arith), ← (rw y.i-1.given.1 at x.read_u32.ensures), ← (rw z.j-1.given.1 at y.read_u32-in-loop-m.ensures), ← (rw c.enum_told-in_default-read_signed-1.given.1 at z.read_signed.ensures))
 
-loop-again : tie.Need-loop-preserved invariant-loop decreases-loop
+loop-again : tie.Need-loop-m-preserved invariant-loop decreases-loop
 loop-again c =
-    let z = c.before.before.before in
-    let y = z.before.before.before.before in
-    let x = y.before.before.before.before in
-    let l = x.before.before.loop in
-    let a = x.before.before.before.before.args in
-    let f : SFits w64 c.before.w.given.0.0 = search rules in (
+    let z = c in
+    let y = z in
+    let x = y in
+    let l = x.loop-m in
+    let a = x.args in
+    let f : SFits w64 c.w-1.given.0.0 = search rules in (
       omega arith,
       length-set l.firsts l.m _ ∙ l.invariant.1,
       length-set l.seconds l.m _ ∙ l.invariant.2,
@@ -62,9 +62,9 @@ loop-again c =
       rw (
         l.invariant.4,
         terms_step (take l.m l.firsts) (take l.m l.seconds) (take l.m l.weights) a.k l.m (drop l.p a.text.now) (omega arith),
-        ← (rw y.before.before.i.given.1 at x.read_u32.ensures),
-        ← (rw z.before.before.j.given.1 at y.read-u322.ensures),
-        ← (rw c.before.w.given.1 at z.read-signed.ensures),
+        ← (rw y.i-1.given.1 at x.read_u32.ensures),
+        ← (rw z.j-1.given.1 at y.read_u32-in-loop-m.ensures),
+        ← (rw c.w-1.given.1 at z.read_signed.ensures),
         rd f,
         front_more l.firsts l.m _ (omega arith),
         front_more l.seconds l.m _ (omega arith),
@@ -72,15 +72,15 @@ loop-again c =
       ),
     )
 
-returns-4 : tie.Need-returns-4 invariant-loop decreases-loop
+returns-4 : tie.Need-returns invariant-loop decreases-loop
 returns-4 c =
-    let a = c.before.before.before.args in
-    let l = c.before.loop in
+    let a = c.args in
+    let l = c.loop-m in
     let e : a.k ≡ l.m = omega arith in
     rw (l.invariant.4, terms_end (take l.m l.firsts) (take l.m l.seconds) (take l.m l.weights) a.k l.m (drop l.p a.text.now) (omega arith), e)
 
-pub read-terms-spec : {M : Type 1} → statement M
-read-terms-spec =
+pub read_terms_spec : {M : Type 1} → statement M
+read_terms_spec =
     tie.close
     (tie.spec
     invariant-loop
