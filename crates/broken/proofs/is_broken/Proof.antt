@@ -14,17 +14,17 @@ use Rattle.rules.specs.Record.{sound}
 use Rattle.broken.proofs.is_broken.Statement.{statement}
 use Rattle.broken.proofs.is_broken.Tie as tie
 
-returns : tie.Need-returns
+returns : tie.Need-returns-then-record-gt64
 unfolding sound all_of
-returns c = rw (lt-leb _ _ c.if1.true)
+returns c = rw (lt-leb _ _ c.if-record-gt64.true)
 
-returns-2 : tie.Need-returns-2
+returns-2 : tie.Need-returns-then-record-gt64-2
 unfolding sound all_of
-returns-2 c = rw (le-leb _ _ c.before.if1.false, lt-leb _ _ c.if2.true)
+returns-2 c = rw (le-leb _ _ c.if-record-gt64.false, lt-leb _ _ c.if-record-gt64-2.true)
 
-steps-fine-requires : tie.Need-steps-fine-requires
+steps-fine-requires : tie.Need-steps_fine-steps-requires
 steps-fine-requires c κs =
-    let told = c.before.before.before.before.before.before.states-of.ensures in
+    let told = c.states_of-states.ensures in
     record { low = omega arith; few = omega arith; unfixed = told.unfixed; eliminated = told.eliminated }
 
 -- the tests in the order of the rules
@@ -32,22 +32,22 @@ in_order : (c k z a b u : Bool) → (c && (k && (z && (a && b && u)))) ≡ all_o
 unfolding all_of
 in_order c k z a b u = simp (and_assoc, and-true)
 
-returns-3 : tie.Need-returns-3
+returns-3 : tie.Need-returns
 unfolding sound
 returns-3 c =
-    let ended = c.before.before.before in
-    let constant = ended.before.before.before.before in
-    let states = constant.before.before in
-    let r = states.before.before.before.before.before.args.t1 in
+    let ended = c in
+    let constant = ended in
+    let states = constant in
+    let r = states.args.t1 in
     let f : SFits w64 r.constant = search rules in
-    let within : constant.constant-fine.result ≡ leb (nat_abs r.constant) 1099511627776 = constant.constant-fine.ensures ∙ ap (λ (z : ℤ). leb (nat_abs z) 1099511627776) (rd f) in
+    let within : constant.constant_fine-constant.result ≡ leb (nat_abs r.constant) 1099511627776 = constant.constant_fine-constant.ensures ∙ ap (λ (z : ℤ). leb (nat_abs z) 1099511627776) (rd f) in
     let low : leb r.n 64 ≡ true = le-leb r.n 64 (omega arith) in
     let few : leb r.count 64 ≡ true = le-leb r.count 64 (omega arith) in
-    rw (low, few, within, states.states-of.ensures.known, ended.zero-bytes.ensures, c.before.before.steps-fine.ensures, c.before.rest-unused.ensures)
+    rw (low, few, within, states.states_of-states.ensures.known, ended.zero_bytes-ended.ensures, c.steps_fine-steps.ensures, c.rest_unused-unused.ensures)
     (ap not (in_order _ _ _ _ _ _))
 
-pub is-broken-spec : {M : Type 1} → statement M
-is-broken-spec =
+pub is_broken_spec : {M : Type 1} → statement M
+is_broken_spec =
     tie.close
     (tie.spec
     returns

@@ -5,8 +5,8 @@ use Rattle.broken.proofs.near_fine.Tie as tie
 returns : tie.Need-returns
 returns c = cc
 
-pub near-fine-spec : {M : Type 1} → statement M
-near-fine-spec =
+pub near_fine_spec : {M : Type 1} → statement M
+near_fine_spec =
     tie.close
     (tie.spec
     (λ c κs. search rules)

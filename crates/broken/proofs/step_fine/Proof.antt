@@ -5,5 +5,8 @@ use Rattle.broken.proofs.step_fine.Tie as tie
 returns : tie.Need-returns
 returns c = cc
 
-pub step-fine-spec : {M : Type 1} → statement M
-step-fine-spec = tie.close (tie.spec (λ c κs. search rules) (λ c κs. search rules) returns)
+pub step_fine_spec : {M : Type 1} → statement M
+step_fine_spec = tie.close (tie.spec
+    (λ c κs. search rules)
+    (λ c κs. search rules)
+    returns)
