@@ -13,7 +13,7 @@ returns c =
     let constant = states in
     let b = constant.args.block.now in
     let z = constant.of_twos-constant in
-    let k : to_z w64 (of_z w64 z.result) ≡ from_twos (from_little (take 8 (drop 4 b))) = rd (sfits_of z.type_inv) ∙ z.ensures ∙ ap from_twos constant.little_in.ensures in
+    let k : to_z w64 (of_z w64 z.result) ≡ from_twos (from_little (take 8 (drop 4 b))) = rd {w = w64} (sfits_of z.type_inv) ∙ z.ensures ∙ ap from_twos constant.little_in.ensures in
     let ss = states.states_in-states.ensures in
     let ts = steps.steps_in-steps.ensures in
     λ i. record { n = get_or b 1 0; count = get_or b 2 0; constant = k i; states = ss i; steps = ts i }

@@ -16,19 +16,19 @@ loop-holds c = (omega arith, refl, refl)
 loop-again : tie.Need-loop-k-preserved invariant-loop decreases-loop
 loop-again c =
     let l = c.loop-k in
-    let ss = c.args.t2.states in
+    let ss = c.args.r.states in
     let n : length ss ≡ 64 = search rules in (
       omega arith,
-      length-set l.block-1 (12 + l.k) (get_or ss l.k 0) ∙ l.invariant.1,
-      sym (store_next l.block-1 12 l.k ss 0 (omega arith)) ∙ l.invariant.2,
+      length-set l.block (12 + l.k) (get_or ss l.k 0) ∙ l.invariant.1,
+      sym (store_next l.block 12 l.k ss 0 (omega arith)) ∙ l.invariant.2,
     )
 
 returns : tie.Need-returns invariant-loop decreases-loop
 returns c =
     let l = c.loop-k in
-    let ss = c.args.t2.states in
+    let ss = c.args.r.states in
     let n : length ss ≡ 64 = search rules in
-    sym (store_over l.block-1 12 l.k ss (omega arith)) ∙ l.invariant.2
+    sym (store_over l.block 12 l.k ss (omega arith)) ∙ l.invariant.2
 
 pub put_states_spec : {M : Type 1} → statement M
 put_states_spec =

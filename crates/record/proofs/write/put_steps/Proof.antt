@@ -19,19 +19,19 @@ loop-again : tie.Need-loop-k-preserved invariant-loop decreases-loop
 loop-again c =
     let turn = c in
     let l = turn.loop-k in
-    let ss = turn.args.t2.steps in
+    let ss = turn.args.r.steps in
     let n : length ss ≡ 64 = search (rules, length_mapped) in (
       omega arith,
-      c.put_step.auto.0 ∙ l.invariant.1,
-      ap (λ (x : List ℕ). sets x (76 + 6 * (l.k + 1)) (steps_bytes (drop (l.k + 1) ss))) c.put_step.ensures ∙ sym (steps_next l.block-1 76 l.k ss (omega arith)) ∙ l.invariant.2,
+      c.put_step.auto.block ∙ l.invariant.1,
+      ap (λ (x : List ℕ). sets x (76 + 6 * (l.k + 1)) (steps_bytes (drop (l.k + 1) ss))) c.put_step.ensures ∙ sym (steps_next l.block 76 l.k ss (omega arith)) ∙ l.invariant.2,
     )
 
 returns : tie.Need-returns invariant-loop decreases-loop
 returns c =
     let l = c.loop-k in
-    let ss = c.args.t2.steps in
+    let ss = c.args.r.steps in
     let n : length ss ≡ 64 = search (rules, length_mapped) in
-    sym (steps_over l.block-1 (76 + 6 * l.k) l.k ss (omega arith)) ∙ l.invariant.2
+    sym (steps_over l.block (76 + 6 * l.k) l.k ss (omega arith)) ∙ l.invariant.2
 
 pub put_steps_spec : {M : Type 1} → statement M
 put_steps_spec =
