@@ -13,7 +13,7 @@ returns : tie.Need-returns-then-is_broken
 unfolding grow_refusal plan_after
 returns c =
     let a = c.args in
-    of_broken (λ r. answer_rows r a.answer.now (length a.plan-1.now)) (λ r. grown r a.answer.now) a.plan-1.now a.«record» (sym c.is_broken.ensures ∙ c.if-is_broken.true)
+    of_broken (λ r. answer_rows r a.answer.now (length a.plan.now)) (λ r. grown r a.answer.now) a.plan.now a.«record» (sym c.is_broken.ensures ∙ c.if-is_broken.true)
 
 unbroken : (c : tie.After-grow_unbroken-arg-1) → broken c.args.«record» ≡ false
 unbroken c = sym c.is_broken.ensures ∙ c.if-is_broken.false
@@ -23,7 +23,7 @@ unfolding grow_refusal plan_after
 returns-2 c =
     let g = c in
     let a = g.args in
-    of_unbroken (λ r. answer_rows r a.answer.now (length a.plan-1.now)) (λ r. grown r a.answer.now) a.plan-1.now a.«record» (unbroken g.before.before.before) g.grow_unbroken.ensures
+    of_unbroken (λ r. answer_rows r a.answer.now (length a.plan.now)) (λ r. grown r a.answer.now) a.plan.now a.«record» (unbroken g.before.before.before) g.grow_unbroken.ensures
 
 pub grow_back_spec : {M : Type 1} → statement M
 grow_back_spec = tie.close (tie.spec

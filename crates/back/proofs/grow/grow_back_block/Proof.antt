@@ -11,7 +11,7 @@ unfolding grow_block_refusal block_plan_after
 returns c =
     let d = c in
     let a = d.args in
-    of_unread (λ r. answer_rows r a.answer.now (length a.plan-1.now)) (λ r. grown r a.answer.now) a.plan-1.now a.block.now d.read_record-reading.result d.read_record-reading.ensures c.if-reading-ne0.true
+    of_unread (λ r. answer_rows r a.answer.now (length a.plan.now)) (λ r. grown r a.answer.now) a.plan.now a.block.now d.read_record-reading.result d.read_record-reading.ensures c.if-reading-ne0.true
 
 grow-unbroken-requires : tie.Need-grow_unbroken-requires
 grow-unbroken-requires c κs =
@@ -24,7 +24,7 @@ returns-2 c =
     let g = c in
     let d = g in
     let a = d.args in
-    of_read (λ r. answer_rows r a.answer.now (length a.plan-1.now)) (λ r. grown r a.answer.now) a.plan-1.now a.block.now d.read_record-reading.result d.read_record-reading.ensures g.if-reading-ne0.false g.grow_unbroken.ensures
+    of_read (λ r. answer_rows r a.answer.now (length a.plan.now)) (λ r. grown r a.answer.now) a.plan.now a.block.now d.read_record-reading.result d.read_record-reading.ensures g.if-reading-ne0.false g.grow_unbroken.ensures
 
 pub grow_back_block_spec : {M : Type 1} → statement M
 grow_back_block_spec = tie.close (tie.spec

@@ -21,13 +21,13 @@ asked : (c : tie.After-bytes_refusal-refused) → let s = c.before.before.before
 unfolding states_of
 asked c =
     let a = c.args in
-    c.bytes_refusal-refused.ensures ∙ ap (λ (long : ℕ). first_row (bytes_rows a.«record» long a.answer.now (length a.plan-1.now))) c.remaining-long.ensures
+    c.bytes_refusal-refused.ensures ∙ ap (λ (long : ℕ). first_row (bytes_rows a.«record» long a.answer.now (length a.plan.now))) c.remaining-long.ensures
 
 -- the output is n long
 long : (c : tie.Else-refused-ne0) → let s = c.before.before.before.before.before.before.before in length s.args.plan.now ≡ s.args.«record».n
 long c =
     let a = c.args in
-    (bytes_lengths a.«record» _ a.answer.now (length a.plan-1.now) (sym (asked c.before) ∙ c.if-refused-ne0.false)).1
+    (bytes_lengths a.«record» _ a.answer.now (length a.plan.now) (sym (asked c.before) ∙ c.if-refused-ne0.false)).1
 
 remaining-requires : tie.Need-remaining-long-requires
 remaining-requires c κs = few_decisions c.args.«record» c.requires
@@ -35,7 +35,7 @@ remaining-requires c κs = few_decisions c.args.«record» c.requires
 returns : tie.Need-returns-then-refused-ne0
 returns c =
     let a = c.args in
-    answers_refused _ c.bytes_refusal-refused.result (grown a.«record» a.answer.now) a.plan-1.now (asked c.before) c.if-refused-ne0.true
+    answers_refused _ c.bytes_refusal-refused.result (grown a.«record» a.answer.now) a.plan.now (asked c.before) c.if-refused-ne0.true
 
 placed-requires : tie.Need-placed-placed-requires
 placed-requires c κs = let s = c in few_decisions s.args.«record» s.requires

@@ -1,6 +1,6 @@
 use mathlib.Core.Path.{◌≡◌, refl, ◌∙◌}
 use mathlib.Core.List.{◌++◌, append-nil}
-use Prim.Native.Nat.{◌+◌, ◌≤◌, ◌<◌, ◌-◌}
+use Prim.Native.Nat.{◌≤◌, ◌<◌, ◌-◌}
 use native.Mathlib.Omega.{arith}
 use borrow.Author.Rules.{rules}
 use lib.ListN.{length, get_or, take, drop, length-set}
@@ -23,12 +23,12 @@ loop-again c =
     let l = c.loop-k in
     let s = c in
     let a = s.args in
-    let n : length a.t1 ≡ 64 = search rules in
-    let v = get_or a.t1 l.k 0 in
+    let n : length a.bytes ≡ 64 = search rules in
+    let v = get_or a.bytes l.k 0 in
     let d : l.k < length a.out.now = omega (arith, l.invariant.1) in (
       omega arith,
       length-set l.out l.k v ∙ l.invariant.1,
-      copy_next a.t1 a.out.now l.out l.k v 0 (omega (arith, s.requires)) d l.invariant.2 refl,
+      copy_next a.bytes a.out.now l.out l.k v 0 (omega (arith, s.requires)) d l.invariant.2 refl,
     )
 
 returns : tie.Need-returns invariant-loop decreases-loop

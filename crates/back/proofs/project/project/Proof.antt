@@ -13,7 +13,7 @@ returns : tie.Need-returns-then-is_broken
 unfolding project_refusal answer_after
 returns c =
     let a = c.args in
-    of_broken (λ r. plan_rows r a.plan.now (length a.out-1.now)) (λ r. projected r a.plan.now) a.out-1.now a.«record» (sym c.is_broken.ensures ∙ c.if-is_broken.true)
+    of_broken (λ r. plan_rows r a.plan.now (length a.out.now)) (λ r. projected r a.plan.now) a.out.now a.«record» (sym c.is_broken.ensures ∙ c.if-is_broken.true)
 
 unbroken : (c : tie.After-project_unbroken-arg-1) → broken c.args.«record» ≡ false
 unbroken c = sym c.is_broken.ensures ∙ c.if-is_broken.false
@@ -23,7 +23,7 @@ unfolding project_refusal answer_after
 returns-2 c =
     let g = c in
     let a = g.args in
-    of_unbroken (λ r. plan_rows r a.plan.now (length a.out-1.now)) (λ r. projected r a.plan.now) a.out-1.now a.«record» (unbroken g.before.before.before) g.project_unbroken.ensures
+    of_unbroken (λ r. plan_rows r a.plan.now (length a.out.now)) (λ r. projected r a.plan.now) a.out.now a.«record» (unbroken g.before.before.before) g.project_unbroken.ensures
 
 pub project_spec : {M : Type 1} → statement M
 project_spec = tie.close (tie.spec

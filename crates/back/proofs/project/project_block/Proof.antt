@@ -11,7 +11,7 @@ unfolding project_block_refusal block_answer_after
 returns c =
     let d = c in
     let a = d.args in
-    of_unread (λ r. plan_rows r a.plan.now (length a.out-1.now)) (λ r. projected r a.plan.now) a.out-1.now a.block.now d.read_record-reading.result d.read_record-reading.ensures c.if-reading-ne0.true
+    of_unread (λ r. plan_rows r a.plan.now (length a.out.now)) (λ r. projected r a.plan.now) a.out.now a.block.now d.read_record-reading.result d.read_record-reading.ensures c.if-reading-ne0.true
 
 project-unbroken-requires : tie.Need-project_unbroken-requires
 project-unbroken-requires c κs =
@@ -24,7 +24,7 @@ returns-2 c =
     let g = c in
     let d = g in
     let a = d.args in
-    of_read (λ r. plan_rows r a.plan.now (length a.out-1.now)) (λ r. projected r a.plan.now) a.out-1.now a.block.now d.read_record-reading.result d.read_record-reading.ensures g.if-reading-ne0.false g.project_unbroken.ensures
+    of_read (λ r. plan_rows r a.plan.now (length a.out.now)) (λ r. projected r a.plan.now) a.out.now a.block.now d.read_record-reading.result d.read_record-reading.ensures g.if-reading-ne0.false g.project_unbroken.ensures
 
 pub project_block_spec : {M : Type 1} → statement M
 project_block_spec = tie.close (tie.spec

@@ -15,12 +15,12 @@ use Rattle.back.proofs.project.project_unbroken.Tie as tie
 long : (c : tie.Else-refused-ne0) → let s = c.before.before.before.before.before in length s.args.out.now ≡ s.args.«record».n
 long c =
     let a = c.args in
-    (bytes_lengths a.«record» a.«record».n a.plan.now (length a.out-1.now) (sym c.bytes_refusal-refused.ensures ∙ c.if-refused-ne0.false)).1
+    (bytes_lengths a.«record» a.«record».n a.plan.now (length a.out.now) (sym c.bytes_refusal-refused.ensures ∙ c.if-refused-ne0.false)).1
 
 returns : tie.Need-returns-then-refused-ne0
 returns c =
     let a = c.args in
-    answers_refused _ c.bytes_refusal-refused.result (projected a.«record» a.plan.now) a.out-1.now c.bytes_refusal-refused.ensures c.if-refused-ne0.true
+    answers_refused _ c.bytes_refusal-refused.result (projected a.«record» a.plan.now) a.out.now c.bytes_refusal-refused.ensures c.if-refused-ne0.true
 
 projected-requires : tie.Need-projected-entries-requires
 projected-requires c κs = let s = c in few_decisions s.args.«record» s.requires
@@ -38,7 +38,7 @@ returns-2 c =
     let p = w in
     let e = p in
     let a = e.args in
-    answers_accepted _ (projected a.«record» a.plan.now) a.out-1.now _ (sym e.bytes_refusal-refused.ensures ∙ e.if-refused-ne0.false)
+    answers_accepted _ (projected a.«record» a.plan.now) a.out.now _ (sym e.bytes_refusal-refused.ensures ∙ e.if-refused-ne0.false)
     (w.write_front.ensures ∙ ap (λ (n : ℕ). take n p.projected-entries.result) (long e.before.before.before.before.before.before) ∙ p.projected-entries.ensures)
 
 pub project_unbroken_spec : {M : Type 1} → statement M
