@@ -10,7 +10,8 @@ use Rattle.cost_laws.specs.CostLaws.{cost, Shaped}
 use Rattle.accepted_laws.specs.Accept.{Fit}
 use Rattle.objective_laws.specs.ObjectiveCost.{terms_cost, cost_of_objective, with_fixings, Keeps}
 use Rattle.objective_laws.specs.BuildLaws.{TermsAdded, terms_added, shaped_bare, bare_cost}
-use Rattle.objective_laws.specs.FixLaws.{fixed_n, fixed_shaped, fixed_cost, kept_cost}
+use Rattle.objective_laws.specs.FixLaws.{fixed_n, fixed_shaped}
+use Rattle.objective_laws.proofs.FixedCost.{fixed_cost, kept_cost}
 
 module _ (o : Objective) (fit : Fit o) where
   added : TermsAdded o.firsts o.seconds o.term_weights (bare o) (graph_of o)
