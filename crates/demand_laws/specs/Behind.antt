@@ -13,12 +13,15 @@ use Rattle.accepted_laws.specs.Accept.{Fit}
 use Rattle.cost_laws.specs.CostLaws.{Shaped, base_cost, lin_cost, edge_cost, drop_cost}
 use Rattle.cost_laws.specs.Growth.{neighbours_apart}
 use Rattle.cost_laws.specs.ReduceLaws.{Absorbed, choice_at, absorbed_reduces, eliminate_absorbed, absorbed_never_more}
-use Rattle.cost_laws.specs.DegreeThreeLaws.{triple_of, three_absorbed}
-use Rattle.cost_laws.specs.DominantLaws.{contract_reduces, contract_never_more}
+use Rattle.cost_laws.specs.DegreeThreeLaws.{triple_of}
+use Rattle.cost_laws.proofs.ThreeAbsorbed.{three_absorbed}
+use Rattle.cost_laws.specs.DominantLaws.{contract_reduces}
+use Rattle.cost_laws.proofs.ContractBest.{contract_never_more}
 use Rattle.cost_laws.specs.BlockCost.{pair_of}
-use Rattle.cost_laws.specs.Found.{found_plan, found_least}
+use Rattle.cost_laws.specs.Found.{found_least}
+use Rattle.cost_laws.proofs.BlockPlan.{found_plan}
 use Rattle.objective_laws.specs.FixLaws.{set_at, reduced_plan, fix_cost}
-use Rattle.objective_laws.specs.Theorems.{graph_cost, start_cost}
+use Rattle.objective_laws.proofs.Theorems.{graph_cost, start_cost}
 use Rattle.sound_laws.specs.SoundRun.{run_sound, begin_sound}
 use Rattle.sound_laws.specs.SoundStart.{start_stands}
 use Rattle.size_laws.specs.RunWithin.{run_within}

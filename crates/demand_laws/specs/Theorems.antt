@@ -19,7 +19,7 @@ use Rattle.cost_laws.specs.CostLaws.{cost}
 use Rattle.cost_laws.specs.BlockSteps.{played_back}
 use Rattle.objective_laws.specs.ObjectiveCost.{Keeps}
 use Rattle.cost_laws.specs.BlockCost.{cost_ext}
-use Rattle.objective_laws.specs.Theorems.{start_cost_kept}
+use Rattle.objective_laws.proofs.Theorems.{start_cost_kept}
 use Rattle.sound_laws.specs.Sound.{decisions}
 use Rattle.sound_laws.specs.SoundStart.{ended_sound}
 use Rattle.run_laws.specs.StepLaws.{steps_alive}

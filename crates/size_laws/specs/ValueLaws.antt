@@ -20,7 +20,7 @@ use Rattle.cost_laws.specs.Neat.{Neat}
 use Rattle.accepted_laws.specs.Accept.{Fit}
 use Rattle.objective_laws.specs.ObjectiveCost.{linear_cost, terms_cost, cost_of_objective, with_fixings}
 use Rattle.objective_laws.specs.FixLaws.{set_at, set_same, set_other, dropped_set, delta_set}
-use Rattle.objective_laws.specs.Theorems.{start_cost}
+use Rattle.objective_laws.proofs.Theorems.{start_cost}
 use Rattle.size_laws.specs.Values.{up, down, Between, Narrow, TakenFrom}
 
 -- ---- the objective's own range

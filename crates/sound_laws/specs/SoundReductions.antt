@@ -18,12 +18,15 @@ use Rattle.rules.specs.Record.{ascending}
 use Rattle.cost_laws.specs.CostLaws.{cost}
 use Rattle.cost_laws.specs.EliminateLaws.{mask_at, AtMostTwo}
 use Rattle.cost_laws.specs.ReduceLaws.{ReducedBy, Absorbed, absorbed_reduces, absorbed_never_more, eliminate_absorbed}
-use Rattle.cost_laws.specs.DegreeThreeLaws.{Triple, triple_of, three_absorbed}
-use Rattle.cost_laws.specs.DominantLaws.{contract_choice, contract_reduces, contract_never_more}
+use Rattle.cost_laws.specs.DegreeThreeLaws.{Triple, triple_of}
+use Rattle.cost_laws.proofs.ThreeAbsorbed.{three_absorbed}
+use Rattle.cost_laws.specs.DominantLaws.{contract_choice, contract_reduces}
+use Rattle.cost_laws.proofs.ContractBest.{contract_never_more}
 use Rattle.cost_laws.specs.BlockCost.{mask_below, boundary_outside, pair_of}
 use Rattle.cost_laws.specs.Found.{SmallBlock, found_block, found_live, found_least}
 use Rattle.cost_laws.specs.Neat.{neat_tidy, boundary_live}
-use Rattle.cost_laws.specs.BlockSteps.{choice_is, played_back, block_grown_back}
+use Rattle.cost_laws.specs.BlockSteps.{choice_is, played_back}
+use Rattle.cost_laws.proofs.BlockPlan.{block_grown_back}
 use Rattle.cost_laws.specs.Growth.{neighbours_apart}
 use Rattle.cost_laws.specs.Stands.{Fine, Alive, Stands, marked, alive_other, neighbours_alive, eliminate_stands, three_stands, contract_stands, block_stands}
 use Rattle.objective_laws.specs.FixLaws.{reduced_plan, set_at}
