@@ -22,7 +22,8 @@ use Rattle.cost_laws.specs.Found.{found_least}
 use Rattle.cost_laws.proofs.BlockPlan.{found_plan}
 use Rattle.objective_laws.specs.FixLaws.{set_at, reduced_plan, fix_cost}
 use Rattle.objective_laws.proofs.Theorems.{graph_cost, start_cost}
-use Rattle.sound_laws.specs.SoundRun.{run_sound, begin_sound}
+use Rattle.sound_laws.specs.SoundRun.{begin_sound}
+use Rattle.sound_laws.proofs.SoundRun.{run_sound}
 use Rattle.sound_laws.specs.SoundStart.{start_stands}
 use Rattle.size_laws.specs.RunWithin.{run_within}
 use Rattle.size_laws.specs.Sizes.{moebius_size}

@@ -13,7 +13,7 @@ use Rattle.rules.specs.Refuse.{reduce_refusal}
 use Rattle.rules.specs.Call.{unless, refused, reported, reduction, linear_after, edges_after}
 use Rattle.rules.specs.declared.Reduction.{Reduction}
 use Rattle.accepted_laws.specs.Accept.{Fit}
-use Rattle.sound_laws.specs.SoundStart.{ended_n}
+use Rattle.sound_laws.proofs.SoundEnded.{ended_n}
 use Rattle.run_laws.specs.RunEnds.{ended_few}
 use Rattle.run_laws.specs.InOrder.{Room}
 use Rattle.run_laws.specs.InOrderLaws.{ended_room}

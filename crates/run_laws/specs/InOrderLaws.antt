@@ -26,7 +26,8 @@ use Rattle.cost_laws.specs.Stands.{Fine}
 use Rattle.cost_laws.specs.Found.{found_block}
 use Rattle.accepted_laws.specs.Accept.{Fit}
 use Rattle.sound_laws.specs.Sound.{Sound}
-use Rattle.sound_laws.specs.SoundRun.{run_sound, begin_sound}
+use Rattle.sound_laws.specs.SoundRun.{begin_sound}
+use Rattle.sound_laws.proofs.SoundRun.{run_sound}
 use Rattle.sound_laws.specs.SoundStart.{start_stands}
 use Rattle.size_laws.specs.RunWithin.{reduced_within}
 use Rattle.run_laws.specs.DueLaws.{Due, take, block, next_due, run_one}
