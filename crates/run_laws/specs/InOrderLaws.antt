@@ -29,7 +29,7 @@ use Rattle.sound_laws.specs.Sound.{Sound}
 use Rattle.sound_laws.specs.SoundRun.{begin_sound}
 use Rattle.sound_laws.proofs.SoundRun.{run_sound}
 use Rattle.sound_laws.specs.SoundStart.{start_stands}
-use Rattle.size_laws.specs.RunWithin.{reduced_within}
+use Rattle.size_laws.proofs.RunWithin.{reduced_within}
 use Rattle.run_laws.specs.DueLaws.{Due, take, block, next_due, run_one}
 use Rattle.run_laws.specs.QueueLaws.{waiting_apart, join_apart}
 use Rattle.run_laws.specs.StepLaws.{steps_few, block_steps_length}
