@@ -30,10 +30,10 @@ use Rattle.size_laws.proofs.PassSizes.{moebius_size}
 use Rattle.size_laws.specs.SumSizes.{delta_three, tee_three, gains_three, low_size, high_size, upper_size, lower_size, taken_size, inner_size, gains_block}
 use Rattle.size_laws.proofs.PassSizes.{first_pass, second_pass}
 use Rattle.run_laws.specs.DueLaws.{complete_over, ended_units, ended_cut}
-use Rattle.run_laws.specs.RunEnds.{ended_few, ended_complete}
-use Rattle.run_laws.specs.InOrderLaws.{run_in_order, in_order_room}
+use Rattle.run_laws.proofs.RunEnds.{ended_few, ended_complete}
+use Rattle.run_laws.proofs.InOrderLaws.{run_in_order, in_order_room}
 use Rattle.run_laws.specs.FuelLaws.{graph_turns}
-use Rattle.run_laws.specs.WaitingLaws.{never_inactive}
+use Rattle.run_laws.proofs.WaitingLaws.{never_inactive}
 use Rattle.demand_laws.specs.Demands.{run_of, SizeRule, SumBounds, Units, Built, Updates, Reduction-of, Reductions, RunSound}
 
 -- ---- of every objective that is not refused

@@ -4,7 +4,6 @@ use Rattle.std.specs.Prelude.{◌≡◌, refl, List, [], ◌∷◌, ◌++◌, �
 use Rattle.std.proofs.Math.Path.{subst}
 use native.Mathlib.Omega.{arith}
 use Rattle.std.proofs.Common.{length-append}
-use Rattle.whole.specs.Words.{one_if}
 use Rattle.whole.specs.Pigeon.{Apart, pigeon}
 use Rattle.whole.specs.Members.{apart_tail, apart_wider}
 use Rattle.whole.specs.Tests.{at_most_one}
