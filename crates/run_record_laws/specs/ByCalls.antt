@@ -20,7 +20,7 @@ use Rattle.rules.specs.declared.Reduction.{Reduction}
 use Rattle.rules.specs.declared.Record.{Record}
 use Rattle.accepted_laws.specs.Accept.{Fit, Accepted, accept}
 use Rattle.sound_laws.specs.SoundStart.{states_from}
-use Rattle.size_laws.specs.RunWithin.{ended_within}
+use Rattle.size_laws.proofs.RunWithin.{ended_within}
 use Rattle.demand_laws.specs.Demands.{Values, FullPlan, Answer, cost_of_plan, grown_back, projection, reduction_for, Grows, Projects, ByCalls}
 use Rattle.demand_laws.specs.RunEnds.{end_graph, end_steps, end_states, end_taken, start_state, shown_remaining}
 use Rattle.demand_laws.specs.Theorems.{first_half, second_half}
