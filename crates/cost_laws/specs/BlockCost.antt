@@ -4,7 +4,7 @@
 -- Assumes nothing.
 use Rattle.std.specs.Prelude.{◌≡◌, Bool, true, false, cond, not, ◌&&◌, ◌≢◌, ℕ, zero, suc, ◌+◌, ◌*◌, ◌-◌, ◌/◌, ◌%◌, ◌^◌, ◌<◌, ◌≤◌, eqb, length, ℤ, pos, ◌+ℤ◌, ◌≤ℤ◌, ◌<ℤ◌}
 use Rattle.std.proofs.Math.Path.{refl, sym, ap, ap₂}
-use Rattle.std.proofs.Common.{◌∙◌, subst, arith, pow-suc, pow_pos, eqb-true, eq-eqb, ne_eqb}
+use Rattle.std.proofs.Common.{◌∙◌, subst, arith, pow-suc, eqb-true, eq-eqb, ne_eqb}
 use mathlib.Core.List.{List, [], ◌∷◌, ◌++◌}
 use Rattle.std.proofs.Math.IntN.{+ℤ_idr}
 use Rattle.std.specs.Int.Signed.{lt_z, ≤ℤ_refl}
@@ -298,12 +298,12 @@ module _ (g : Graph) (b : List ℕ) (s : Shaped g) (a : Apart g.n b) (l : length
   abbrev filling : (ℕ → Bool) → ℕ
   filling x = mask_at x (boundary g b)
 
-  absorbed : (x : ℕ → Bool) → cost (eliminate_block b g) x ≡ cost (drop_all b g) x +ℤ block_table g b (mask_at x (boundary g b))
+  pub absorbed : (x : ℕ → Bool) → cost (eliminate_block b g) x ≡ cost (drop_all b g) x +ℤ block_table g b (mask_at x (boundary g b))
   unfolding eliminate_block
   absorbed x = absorb_cost (drop_all b g) x (block_table g b) (boundary g b) (drop_all_shaped b g s a)
       (subst (λ (n : ℕ). AtMostTwo n (boundary g b)) (sym (drop_all_n b g)) (pair_of (boundary_apart g b) l))
 
-  parted : (x : ℕ → Bool) → cost g x ≡ cost (drop_all b g) x +ℤ inner g (boundary g b) (mask_at x (boundary g b)) b (mask_at x b)
+  pub parted : (x : ℕ → Bool) → cost g x ≡ cost (drop_all b g) x +ℤ inner g (boundary g b) (mask_at x (boundary g b)) b (mask_at x b)
   parted x = inside_cost x (boundary g b) g b s (whole_apart g b a) (boundary_inside g b)
 
   -- the reduced cost and the members' own cost, against the old cost and the table
@@ -321,15 +321,3 @@ module _ (g : Graph) (b : List ℕ) (s : Shaped g) (a : Apart g.n b) (l : length
   -- the plan with the members set to the winning mask for its filling of the boundary
   abbrev pub settled : (ℕ → Bool) → ℕ → Bool
   settled x = put b (best_mask g b (mask_at x (boundary g b))) x
-
-  -- the reduced cost of a plan is the old cost of the plan so settled
-  pub block_plan : (x : ℕ → Bool) → cost (eliminate_block b g) x ≡ cost g (settled x)
-  block_plan x =
-      let m = best_mask g b (mask_at x (boundary g b)) in
-      let small : m < 2 ^ length b = omega (arith, cheapest_in (inner g (boundary g b) (mask_at x (boundary g b)) b) (2 ^ length b - 1), pow_pos (length b)) in
-      let same : mask_at (settled x) (boundary g b) ≡ mask_at x (boundary g b) = mask_ext (settled x) x (boundary g b) (λ k t. put_other b m x k (boundary_outside g b k t)) in
-      absorbed x
-      ∙ ap₂ (λ (u v : ℤ). u +ℤ v)
-      (gone_cost (drop_all b g) x (settled x) b (λ k t. drop_all_gone b g k s a t) (λ k t. sym (put_other b m x k t)))
-      (sym (ap₂ (λ (f r : ℕ). inner g (boundary g b) f b r) same (mask_put x m a small)))
-      ∙ sym (parted (settled x))

@@ -5,13 +5,12 @@ use Rattle.std.proofs.Common.{sym, ap, ◌∙◌, subst, arith, leb-true}
 use Rattle.whole.specs.Words.{is_zero_z, upto, mem, some}
 use Rattle.rules.specs.Graph.{Graph, edge, active, actives, neighbours}
 use Rattle.cost_laws.specs.CostLaws.{cost, Shaped}
-use Rattle.rules.specs.SmallBlock.{component, is_cut, Block, none, members, small, among, or_else, over_cuts, over_removed, search, find_block, boundary, best_mask, eliminate_block}
-use Rattle.cost_laws.specs.EliminateLaws.{mask_at}
+use Rattle.rules.specs.SmallBlock.{component, is_cut, Block, none, members, small, among, or_else, over_cuts, over_removed, search, find_block, boundary, eliminate_block}
 use Rattle.whole.specs.Pigeon.{Apart}
 use Rattle.whole.specs.Tests.{clash, refuse, on_not, off_not, and-true, or_true}
 use Rattle.whole.specs.Members.{in_single, in_head, in_tail, in_left, in_those, upto_in, few, apart_below}
 use Rattle.cost_laws.specs.Growth.{Grown, component_grown, to_nbrs, network}
-use Rattle.cost_laws.specs.BlockCost.{boundary_apart, in_boundary, put, block_plan, block_least}
+use Rattle.cost_laws.specs.BlockCost.{boundary_apart, in_boundary, block_least}
 
 -- an edge leads to an active decision only
 abbrev pub Tidy : Graph → Type 0
@@ -169,9 +168,6 @@ module _ (g : Graph) (b : List ℕ) (s : Shaped g) (e : find_block g ≡ members
   found_live tidy = found_grown.least (active g) (λ i j a li e m. tidy i j li e)
       (λ k m. ap (active g) (in_single k seed m) ∙ (in_actives g seed by.by.taken.live).1)
 
-  -- demand 3 of a block step: the reduced cost is a cost of the graph before, and no plan costs less than its reduced cost
-  pub found_plan : (x : ℕ → Bool) → cost (eliminate_block b g) x ≡ cost g (put b (best_mask g b (mask_at x (boundary g b))) x)
-  found_plan = block_plan g b s found_block.apart found_block.narrow
-
+  -- demand 3 of a block step, its second half: no plan costs less than its reduced cost
   pub found_least : (x : ℕ → Bool) → cost (eliminate_block b g) x ≤ℤ cost g x
   found_least = block_least g b s found_block.apart found_block.narrow

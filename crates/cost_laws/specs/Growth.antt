@@ -8,7 +8,7 @@ use Rattle.std.proofs.Math.Bool.{not}
 use mathlib.Core.List.{List, [], ◌∷◌, ◌++◌, append_assoc, append-nil}
 use Prim.Native.Nat.{ℕ, zero, suc, ◌+◌, ◌<◌, ◌≤◌}
 use Rattle.std.proofs.Math.ListN.{length-append}
-use Rattle.whole.specs.Words.{is_zero_z, upto, mem, those, some}
+use Rattle.whole.specs.Words.{is_zero_z, upto, mem, some}
 use Rattle.rules.specs.Graph.{Graph, edge, neighbours}
 use Rattle.cost_laws.specs.CostLaws.{Shaped}
 use Rattle.rules.specs.SmallBlock.{fresh, grow, component, besides, is_cut}

@@ -7,7 +7,7 @@ use Rattle.whole.specs.Words.{is_zero_z, mem}
 use Rattle.rules.specs.Graph.{Graph, edge, active, neighbours, add_constant, add_linear, add_edge, clear, drop_to}
 use Rattle.rules.specs.SmallBlock.{boundary}
 use Rattle.cost_laws.specs.CostLaws.{Shaped, in64, drop_zero}
-use Rattle.whole.specs.Pigeon.{Apart, one}
+use Rattle.whole.specs.Pigeon.{Apart}
 use Rattle.whole.specs.Tests.{clash, refuse, off_not}
 use Rattle.whole.specs.Members.{apart_below, apart_wider}
 use Rattle.whole.specs.Cells.{row_of, col_of, cells_other}

@@ -1,2 +1,2 @@
-// What the rules mean, as theorems about them: all in specs/.
+// What the rules mean, as theorems about them: in specs/ and proofs/.
 #![tactic(auto)]

@@ -18,9 +18,9 @@ use Rattle.cost_laws.specs.Cost.{when, when_zero, delta_of}
 use Rattle.cost_laws.specs.CostLaws.{cost, Shaped, drop_cost}
 use Rattle.cost_laws.specs.AbsorbLaws.{shaped_base, shaped_lin}
 use Rattle.cost_laws.specs.EliminateLaws.{shaped_drop}
-use Rattle.cost_laws.specs.BlockCost.{cost_ext, gone_cost, drop_all_gone}
+use Rattle.cost_laws.specs.BlockCost.{gone_cost, drop_all_gone}
 use Rattle.cost_laws.specs.ReduceLaws.{ReducedBy, fix_0_reduces, fix_1_reduces}
-use Rattle.objective_laws.specs.ObjectiveCost.{with_fixings, Keeps}
+use Rattle.objective_laws.specs.ObjectiveCost.{with_fixings}
 
 -- x with b at i
 abbrev pub set_at : ℕ → Bool → (ℕ → Bool) → ℕ → Bool
@@ -120,7 +120,7 @@ put_at i (v ∷ vs) x (suc k) = go (ltb v 2) (rw (shift i k) at (put_at (suc i) 
     go true r = set_other i (eqb v 1) (put_from (suc i) vs x) (i + suc k) (omega arith) ∙ r
     go false r = r
 
-put_with : (fs : List ℕ) (x : ℕ → Bool) (k : ℕ) → put_from 0 fs x k ≡ with_fixings fs x k
+pub put_with : (fs : List ℕ) (x : ℕ → Bool) (k : ℕ) → put_from 0 fs x k ≡ with_fixings fs x k
 put_with fs x k = rw (zero-add k) at (put_at 0 fs x k)
 
 pub record Fixed (i : ℕ) (vs : List ℕ) (g g' : Graph) : Type 0 where
@@ -128,7 +128,7 @@ pub record Fixed (i : ℕ) (vs : List ℕ) (g g' : Graph) : Type 0 where
   pub shaped : Shaped g'
   pub costs : (x : ℕ → Bool) → cost g' x ≡ cost g (put_from i vs x)
 
-all_fixed : (i : ℕ) (vs : List ℕ) (g : Graph) → Shaped g → i + length vs ≤ g.n → Fixed i vs g (fix_all i vs g)
+pub all_fixed : (i : ℕ) (vs : List ℕ) (g : Graph) → Shaped g → i + length vs ≤ g.n → Fixed i vs g (fix_all i vs g)
 unfolding fix_all put_from
 all_fixed i [] g s h = record { same_n = refl; shaped = s; costs = λ x. refl }
 all_fixed i (v ∷ vs) g s h = go (ltb v 2) refl
@@ -155,13 +155,3 @@ module _ (fs : List ℕ) (g : Graph) (s : Shaped g) (long : length fs ≤ g.n) w
 
   pub fixed_shaped : Shaped (fix_all 0 fs g)
   fixed_shaped = (all_fixed 0 fs g s (omega arith)).shaped
-
-  pub fixed_cost : (x : ℕ → Bool) → cost (fix_all 0 fs g) x ≡ cost g (with_fixings fs x)
-  fixed_cost x = (all_fixed 0 fs g s (omega arith)).costs x ∙ cost_ext g (put_from 0 fs x) (with_fixings fs x) (put_with fs x)
-
-  pub kept_cost : (x : ℕ → Bool) → Keeps fs x → cost (fix_all 0 fs g) x ≡ cost g x
-  kept_cost x keeps = fixed_cost x ∙ cost_ext g (with_fixings fs x) x (λ k. same k (ltb (get_or fs k 2) 2) refl)
-    where
-      same : (k : ℕ) (t : Bool) → ltb (get_or fs k 2) 2 ≡ t → cond t (eqb (get_or fs k 2) 1) (x k) ≡ x k
-      same k true e = sym (keeps k (ltb-true (get_or fs k 2) 2 e))
-      same k false e = refl

@@ -1,4 +1,3 @@
 pub mod ObjectiveCost
 pub mod BuildLaws
 pub mod FixLaws
-pub mod Theorems

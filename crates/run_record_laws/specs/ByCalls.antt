@@ -20,10 +20,10 @@ use Rattle.rules.specs.declared.Reduction.{Reduction}
 use Rattle.rules.specs.declared.Record.{Record}
 use Rattle.accepted_laws.specs.Accept.{Fit, Accepted, accept}
 use Rattle.sound_laws.specs.SoundStart.{states_from}
-use Rattle.size_laws.specs.RunWithin.{ended_within}
+use Rattle.size_laws.proofs.RunWithin.{ended_within}
 use Rattle.demand_laws.specs.Demands.{Values, FullPlan, Answer, cost_of_plan, grown_back, projection, reduction_for, Grows, Projects, ByCalls}
 use Rattle.demand_laws.specs.RunEnds.{end_graph, end_steps, end_states, end_taken, start_state, shown_remaining}
-use Rattle.demand_laws.specs.Theorems.{first_half, second_half}
+use Rattle.demand_laws.proofs.Theorems.{first_half, second_half}
 use Rattle.record_laws.specs.Steps.{steps_of_record}
 use Rattle.run_record_laws.specs.RunRecord.{steps_narrow, record_sound}
 use Rattle.accepted_laws.specs.Rows.{no_row, bytes_fine}

@@ -1,0 +1,3 @@
+pub mod BlockPlan
+pub mod ThreeAbsorbed
+pub mod ContractBest

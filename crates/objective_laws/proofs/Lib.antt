@@ -1,0 +1,2 @@
+pub mod FixedCost
+pub mod Theorems
