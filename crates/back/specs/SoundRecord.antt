@@ -18,7 +18,6 @@ use Rattle.rules.specs.Eliminate as rule
 use Rattle.rules.specs.Back.{place, mask_of, play, play_all, grow_back}
 use Rattle.rules.specs.Record.{played, near_of, no_step, step_at, near_fine, step_fine, steps_of, states_of, sound, broken}
 use Rattle.rules.specs.Call.{grown}
-use Rattle.rules.specs.declared.Step.{Step}
 use Rattle.rules.specs.declared.Record.{Record}
 
 -- one test of a row of tests that all hold

@@ -1,5 +1,6 @@
 // Eliminating a small block: its members leave, what they cost at best goes to its boundary, and each gets a step.
 #![tactic(auto)]
+
 ghost use Rattle.std.specs.Prelude.{◌≡◌, List, ◌++◌, ℕ, ◌+◌, ◌<◌, ◌≤◌, ◌^◌, get_or, take, ℤ};
 ghost use Rattle.whole.specs.Words.{one_if, bit, bits_from, tab};
 ghost use Rattle.rules.specs.Graph.{graph};

@@ -1,5 +1,6 @@
 // The cheapest interior mask of a block, for a filling of its boundary.
 #![tactic(auto)]
+
 ghost use Rattle.std.specs.Prelude.{◌≡◌, ◌<◌, ◌≤◌, take, drop};
 ghost use Rattle.whole.specs.Parts.{∣◌∣};
 ghost use Rattle.whole.specs.Words.{chosen};

@@ -1,5 +1,6 @@
 // "A body is broken unless ..."
 #![tactic(auto)]
+
 ghost use Rattle.std.specs.Prelude.{◌≡◌, cond, ◌&&◌, ◌-◌, ◌≤◌, leb, ltb, eqb, nat_abs, length, get_or};
 ghost use Rattle.whole.specs.Words.{from, upto, all, bit};
 ghost use Rattle.rules.specs.Record.{is_none, step_at, choice_limit, step_fine, stepped, broken};

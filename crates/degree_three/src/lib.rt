@@ -1,5 +1,6 @@
 // Eliminating a decision that has three neighbours, where that leaves no cubic term.
 #![tactic(auto)]
+
 ghost use Rattle.std.specs.Prelude.{◌≡◌, cond, List, [], ℕ, ◌<◌, ◌≤◌, ◌^◌, get_or, pos};
 ghost use Rattle.whole.specs.Words.{tab};
 ghost use Rattle.rules.specs.Eliminate.{step_of};

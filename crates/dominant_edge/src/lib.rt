@@ -1,5 +1,6 @@
 // Contracting a decision with a dominant neighbour.
 #![tactic(auto)]
+
 ghost use Rattle.std.specs.Prelude.{◌≡◌, ◌&&◌, ◌||◌, [], ◌∷◌, ◌≢◌, ℕ, ◌<◌, ◌≤◌, ◌^◌, get_or, pos};
 ghost use Rattle.std.specs.Int.Signed.{le_z};
 ghost use Rattle.whole.specs.Parts.{∣◌∣};

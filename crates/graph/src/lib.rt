@@ -1,5 +1,6 @@
 // The working graph: the atomic updates, building it from the lists, fixing.
 #![tactic(auto)]
+
 ghost use Rattle.std.specs.Prelude.{◌≡◌, ℕ, ◌+◌, ◌*◌, ◌-◌, ◌<◌, ◌≤◌, cond, not, List, ◌++◌, length, get_or, set, drop, replicate, eqb, ℤ, pos, nat_abs, ◌+ℤ◌};
 ghost use Rattle.std.specs.Int.{w64};
 ghost use Rattle.std.proofs.Common.{SFits};

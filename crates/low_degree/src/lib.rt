@@ -1,5 +1,6 @@
 // Eliminating a decision that has at most two neighbours.
 #![tactic(auto)]
+
 ghost use Rattle.std.specs.Prelude.{◌≡◌, List, [], ◌∷◌, ℕ, ◌<◌, ◌≤◌, ◌^◌, get_or, take, pos};
 ghost use Rattle.std.specs.Int.Signed.{lt_z};
 ghost use Rattle.whole.specs.Parts.{∣◌∣};

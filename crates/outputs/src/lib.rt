@@ -1,5 +1,6 @@
 // The outputs, over the remaining decisions alone.
 #![tactic(auto)]
+
 ghost use Rattle.std.specs.Prelude.{◌≡◌, List, ℕ, ◌+◌, ◌*◌, ◌<◌, ◌≤◌, length, get_or, replicate, pos};
 ghost use Rattle.whole.specs.Words.{tab};
 ghost use Rattle.graph.specs.Shows.{Shows};

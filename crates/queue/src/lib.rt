@@ -1,5 +1,6 @@
 // "Take from the front": a queue of waiting decisions, whose methods take self and return the next queue.
 #![tactic(auto)]
+
 ghost use Rattle.std.specs.Prelude.{◌≡◌, true, false, ℕ, ◌<◌, [], ◌∷◌, ◌++◌, drop};
 ghost use Rattle.whole.specs.Words.{mem};
 ghost use Rattle.whole.specs.Masks.{these};

@@ -1,5 +1,6 @@
 // Readers of the program's text: a cursor by value, and an enum for the answer.
 #![tactic(auto)]
+
 ghost use Rattle.std.specs.Prelude.{◌≡◌, ℕ, ◌≤◌, length, take, drop, List, [], ◌∷◌, ℤ};
 ghost use Rattle.rules.specs.ReadText.{number8, number32, weight, ender, line, empty, head, terms, after_weights, input};
 ghost use Rattle.read_text.specs.Seen.{seen32, seen8, seen_line, head_of, seen_head, seen_terms, Lengths, ParsesInto, Parses};

@@ -1,5 +1,6 @@
 // The refusal table of an objective: "given exactly when its row holds and no row above it does". Each test is asked.
 #![tactic(auto)]
+
 ghost use Rattle.std.specs.Prelude.{◌≡◌, cond, ◌||◌, [], ◌∷◌, ◌+◌, ◌≤◌, min, leb};
 ghost use Rattle.whole.specs.Words.{some, one_of};
 ghost use Rattle.rules.specs.Objective.{objective, weight_of};

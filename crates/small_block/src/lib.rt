@@ -1,5 +1,6 @@
 // The search for a small block, by the masks of the graph: bit j of near[i] is set where i and j are neighbours.
 #![tactic(auto)]
+
 ghost use Rattle.std.specs.Prelude.{◌≡◌, true, false, not, ◌&&◌, leb, eqb, List, ◌∷◌, ◌++◌, ℕ, ◌+◌, ◌^◌, ◌<◌, ◌≤◌, length, take, get_or, ℤ};
 ghost use Rattle.whole.specs.Words.{mem, bit, those, some, upto};
 ghost use Rattle.whole.specs.Masks.{these};

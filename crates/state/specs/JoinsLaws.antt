@@ -1,14 +1,14 @@
 -- Who joins, as one list: those of the neighbours that are active, do not wait and are eligible; and a pass's queue the same from everyone.
 -- Assumes nothing.
-use Rattle.std.specs.Prelude.{◌≡◌, Bool, ◌&&◌, ◌||◌, ℕ, ◌+◌, ◌-◌, ◌<◌, ◌≤◌, leb, get_or}
+use Rattle.std.specs.Prelude.{◌≡◌, Bool, ◌&&◌, ◌||◌, ℕ, ◌-◌, ◌<◌, ◌≤◌, leb, get_or}
 use Rattle.std.proofs.Math.Path.{refl, ap, sym}
-use Rattle.std.proofs.Common.{ap₂, ◌∙◌, arith, add-sub_of_le, eq-eqb, ne_eqb, eqb-true}
+use Rattle.std.proofs.Common.{ap₂, ◌∙◌, arith, add-sub_of_le, eq-eqb, ne_eqb}
 use Rattle.std.proofs.Math.Bool.{true, false, cond, not}
 use mathlib.Core.List.{List, [], ◌∷◌, ◌++◌, append-nil, append_assoc}
 use Rattle.whole.specs.Masks.{these, these_apart, these_less, those_ext, those_those, without, bit_less, mem_these, these_below}
 use Rattle.whole.specs.Those.{those_upto}
 use Rattle.whole.specs.Words.{bit, from, upto, mem, those}
-use Rattle.whole.specs.Tests.{refuse, and-true, clash, cases}
+use Rattle.whole.specs.Tests.{refuse, clash, cases}
 use Rattle.whole.specs.Members.{in_left, in_those, out_both, apart_new, apart_tail, differ, out_of_cons}
 use Rattle.whole.specs.Pigeon.{Apart}
 use Rattle.rules.specs.Options.{low_degree, degree_three, dominant_edge}

@@ -1,5 +1,6 @@
 // A state of the run by value: the frame of its graph and what it has counted. The weights, the masks and the states stay in their arrays, the queue in the pass.
 #![tactic(auto)]
+
 ghost use Rattle.std.specs.Prelude.{◌≡◌, ◌+◌, ◌<◌};
 ghost use Rattle.rules.specs.Counts.{plus};
 ghost use Rattle.state.specs.Counting.{counts, Countable, OfUnit};

@@ -7,7 +7,7 @@ use Rattle.rules.specs.Objective.{Objective}
 use Rattle.rules.specs.Outcome.{outcome}
 use Rattle.rules.specs.Refuse.{reduce_refusal}
 use Rattle.rules.specs.Record.{no_step}
-use Rattle.rules.specs.Call.{unless, refused, reduction, linear_after, edges_after}
+use Rattle.rules.specs.Call.{unless, reduction, linear_after, edges_after}
 use Rattle.rules.specs.ReadText.{given}
 use Rattle.rules.specs.WriteText.{written, written_refusal}
 use Rattle.rules.specs.Program.{reply}

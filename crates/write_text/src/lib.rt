@@ -1,5 +1,6 @@
 // Writers of what the program answers: into a lent slice, from a place on, giving the place after.
 #![tactic(auto)]
+
 ghost use Rattle.std.specs.Prelude.{◌≡◌, true, ◌++◌, ◌+◌, ◌^◌, ◌<◌, ◌≤◌, length, take};
 ghost use Rattle.rules.specs.WriteText.{listed, listed_z, edge_if, edge_line, edge_lines, choices_of, step_line, step_lines, written, written_refusal};
 ghost use Rattle.rules.specs.Record.{played, steps_of};
@@ -209,6 +210,7 @@ pub fn put_refusal(out: &mut [u8], number: u8) -> usize
 }
 
 // What a call of `reduce` answered.
+#[tactic(auto, using(crate::specs::CallLaws::replied_result, crate::specs::CallLaws::replied_refusal))]
 pub fn put_reply(out: &mut [u8], reduction: Reduction, linear: &[i64], edges: &[i64]) -> usize
     requires { (room ≤ length out.old) × Fair reduction linear.now edges.now }
     ensures { AtFront out.old (replied reduction linear.now edges.now) out.new result }

@@ -11,56 +11,56 @@ use Rattle.block_elimination.specs.BlockLaws.{listed_more}
 use Rattle.block_elimination.proofs.block_steps.Statement.{statement}
 use Rattle.block_elimination.proofs.block_steps.Tie as tie
 
-abbrev invariant-loop : tie.invariant-loop
+abbrev invariant-loop : tie.invariant-loop-k
 invariant-loop order count o masks s₀ k₀ s k =
     (k ≤ count) × (s.count ≡ s₀.count + k) × ((ss : List rule.Step) → StepsKept s₀ ss → StepsKept s (ss ++ tab (λ k. member_step (outside_of o) masks k (get_or order k 0)) k))
 
-abbrev decreases-loop : tie.decreases-loop
+abbrev decreases-loop : tie.decreases-loop-k
 decreases-loop order count o masks s₀ k₀ s k = count - k
 
-loop-holds : tie.Need-loop-init invariant-loop decreases-loop
+loop-holds : tie.Need-loop-k-init invariant-loop decreases-loop
 unfolding tab
 loop-holds c = (omega arith, omega arith, λ ss h. subst (λ (l : List rule.Step). StepsKept c.args.steps l) (sym (append-nil ss)) h)
 
-mul-i : tie.Need-overflow-mul-i invariant-loop decreases-loop
-mul-i c = omega (arith, c.before.before.requires.0.few)
+mul-i : tie.Need-offset_bounds-order-k invariant-loop decreases-loop
+mul-i c = omega (arith, c.requires.0.few)
 
-element-copy-out-i : tie.Need-element-copy-out-i invariant-loop decreases-loop
-element-copy-out-i c = omega (arith, c.before.before.requires.0.few)
+element-copy-out-i : tie.Need-bounds-order-k invariant-loop decreases-loop
+element-copy-out-i c = omega (arith, c.requires.0.few)
 
-member-step-requires : tie.Need-member-step-requires invariant-loop decreases-loop
-member-step-requires c κs = let t = c.before in (t.before.before.requires.1, omega (arith, t.before.before.requires.0.few), t.before.before.requires.0.low t.before.loop.k t.loop-test.true)
+member-step-requires : tie.Need-member_step-x-requires invariant-loop decreases-loop
+member-step-requires c κs = let t = c in (t.requires.1, omega (arith, t.requires.0.few), t.requires.0.low t.loop-k.k t.loop-k-test.true)
 
-with-step-requires : tie.Need-with-step-requires invariant-loop decreases-loop
-with-step-requires c κs = let t = c.before.before in omega (arith, t.before.before.requires.2, t.before.loop.invariant.1)
+with-step-requires : tie.Need-with_step-more-requires invariant-loop decreases-loop
+with-step-requires c κs = let t = c in omega (arith, t.requires.2, t.loop-k.invariant.1)
 
-add-k : tie.Need-overflow-add-k invariant-loop decreases-loop
-add-k c = omega (arith, c.before.before.before.before.before.requires.0.few)
+add-k : tie.Need-overflow_add-k invariant-loop decreases-loop
+add-k c = omega (arith, c.requires.0.few)
 
-loop-less : tie.Need-loop-smaller invariant-loop decreases-loop
+loop-less : tie.Need-loop-k-smaller invariant-loop decreases-loop
 loop-less c = omega arith
 
-loop-again : tie.Need-loop-preserved invariant-loop decreases-loop
+loop-again : tie.Need-loop-k-preserved invariant-loop decreases-loop
 loop-again c =
-    let t = c.before.before.before in
-    let l = t.before.loop in
-    let a = t.before.before.args in
+    let t = c in
+    let l = t.loop-k in
+    let a = t.args in
     let step : ℕ → rule.Step = λ k. member_step (outside_of a.o) a.masks.now k (get_or a.order.now k 0) in (
       omega arith,
-      omega (arith, c.with-step.ensures.0, l.invariant.1),
-      λ ss h. subst (λ (all : List rule.Step). StepsKept c.with-step.result all) (listed_more ss step l.k)
-          (c.with-step.ensures.1 (ss ++ tab step l.k) (step l.k) (l.invariant.2 ss h) c.before.member-step.ensures),
+      omega (arith, c.with_step-more.ensures.0, l.invariant.1),
+      λ ss h. subst (λ (all : List rule.Step). StepsKept c.with_step-more.result all) (listed_more ss step l.k)
+          (c.with_step-more.ensures.1 (ss ++ tab step l.k) (step l.k) (l.invariant.2 ss h) c.member_step-x.ensures),
     )
 
 returns : tie.Need-returns invariant-loop decreases-loop
 returns c = λ ss h.
-    let l = c.before.loop in
-    let a = c.before.before.args in
+    let l = c.loop-k in
+    let a = c.args in
     let last : l.k ≡ a.count = omega arith in
     subst (λ (k : ℕ). StepsKept l.s (ss ++ tab (λ k. member_step (outside_of a.o) a.masks.now k (get_or a.order.now k 0)) k)) last (l.invariant.2 ss h)
 
-pub block-steps-spec : {M : Type 1} → statement M
-block-steps-spec =
+pub block_steps_spec : {M : Type 1} → statement M
+block_steps_spec =
     tie.close
     (tie.spec
     invariant-loop

@@ -4,32 +4,32 @@ use Rattle.whole.specs.Words.{bits_from}
 use Rattle.block_elimination.proofs.choices.Statement.{statement}
 use Rattle.block_elimination.proofs.choices.Tie as tie
 
-mul-result : tie.Need-overflow-mul-result
-mul-result c = omega (arith, c.before.before.before.before.digit2.ensures.1)
+mul-result : tie.Need-overflow_mul-result
+mul-result c = omega (arith, c.digit-b.ensures.1)
 
-add-result : tie.Need-overflow-add-result
-add-result c = omega (arith, c.before.before.before.before.before.before.digit.ensures.1, c.before.before.before.before.digit2.ensures.1)
+add-result : tie.Need-overflow_add-result
+add-result c = omega (arith, c.digit-a.ensures.1, c.digit-b.ensures.1)
 
-mul-result-2 : tie.Need-overflow-mul-result-2
-mul-result-2 c = omega (arith, c.before.before.digit3.ensures.1)
+mul-result-2 : tie.Need-overflow_mul-result-2
+mul-result-2 c = omega (arith, c.digit-c.ensures.1)
 
-add-result-2 : tie.Need-overflow-add-result-2
-add-result-2 c = omega (arith, c.before.before.before.before.before.before.digit.ensures.1, c.before.before.before.before.digit2.ensures.1, c.before.before.digit3.ensures.1)
+add-result-2 : tie.Need-overflow_add-result-2
+add-result-2 c = omega (arith, c.digit-a.ensures.1, c.digit-b.ensures.1, c.digit-c.ensures.1)
 
-mul-result-3 : tie.Need-overflow-mul-result-3
-mul-result-3 c = omega (arith, c.digit4.ensures.1)
+mul-result-3 : tie.Need-overflow_mul-result-3
+mul-result-3 c = omega (arith, c.digit-d.ensures.1)
 
-add-result-3 : tie.Need-overflow-add-result-3
+add-result-3 : tie.Need-overflow_add-result-3
 add-result-3 c =
-    omega (arith, c.before.before.before.before.before.before.digit.ensures.1, c.before.before.before.before.digit2.ensures.1, c.before.before.digit3.ensures.1, c.digit4.ensures.1)
+    omega (arith, c.digit-a.ensures.1, c.digit-b.ensures.1, c.digit-c.ensures.1, c.digit-d.ensures.1)
 
 returns : tie.Need-returns
 unfolding bits_from
 returns c =
-    omega (arith, c.before.before.before.before.before.before.digit.ensures.0, c.before.before.before.before.digit2.ensures.0, c.before.before.digit3.ensures.0, c.digit4.ensures.0)
+    omega (arith, c.digit-a.ensures.0, c.digit-b.ensures.0, c.digit-c.ensures.0, c.digit-d.ensures.0)
 
-pub choices-spec : {M : Type 1} → statement M
-choices-spec =
+pub choices_spec : {M : Type 1} → statement M
+choices_spec =
     tie.close
     (tie.spec
     (λ c. search rules)

@@ -5,11 +5,14 @@ use native.Mathlib.Omega.{arith}
 use Rattle.block_elimination.proofs.digit.Statement.{statement}
 use Rattle.block_elimination.proofs.digit.Tie as tie
 
-returns : tie.Need-returns
-returns c = let a = c.before.args in (rw (eq-eqb (a.m / 2 ^ a.k % 2) 1 c.if1.true), omega arith)
+returns : tie.Need-returns-then-m-k-eq1
+returns c = let a = c.args in (rw (eq-eqb (a.m / 2 ^ a.k % 2) 1 c.if-m-k-eq1.true), omega arith)
 
-returns-2 : tie.Need-returns-2
-returns-2 c = let a = c.before.args in (rw (ne_eqb (a.m / 2 ^ a.k % 2) 1 c.if1.false), omega arith)
+returns-2 : tie.Need-returns
+returns-2 c = let a = c.args in (rw (ne_eqb (a.m / 2 ^ a.k % 2) 1 c.if-m-k-eq1.false), omega arith)
 
-pub digit-spec : {M : Type 1} → statement M
-digit-spec = tie.close (tie.spec (λ c. search rules) returns returns-2)
+pub digit_spec : {M : Type 1} → statement M
+digit_spec = tie.close (tie.spec
+    (λ c. search rules)
+    returns
+    returns-2)

@@ -18,87 +18,87 @@ use Rattle.block_elimination.proofs.eliminate_block.Tie as tie
 abbrev before : tie.Start → Graph
 before s = held s.args.f s.args.lin.now s.args.edges.now s.args.states.now
 
-boundary-of-requires : tie.Need-boundary-of-requires
+boundary-of-requires : tie.Need-boundary_of-width-requires
 boundary-of-requires c κs =
-    let w = c.before.before.requires.0 in
+    let w = c.requires.0 in
     (w.long, omega (arith, block_few w), members_low w, refl)
 
 -- the boundary, as the code holds it
-abbrev out : tie.After-boundary-of → List ℕ
-out b = b.boundary-of.new.1.1.1.0
+abbrev out : tie.After-boundary_of-width → List ℕ
+out b = b.boundary_of-width.new.out
 
-abbrev start : tie.After-boundary-of → tie.Start
-start b = b.before.before.before
+abbrev start : tie.After-boundary_of-width → tie.Start
+start b = b.before.before
 
-outside : (b : tie.After-boundary-of) → Boundary (before (start b)) (take (start b).args.count (start b).args.order.now) (out b) b.boundary-of.result
-outside b = b.boundary-of.ensures (before (start b)) (start b).requires.0.few (start b).requires.2
+outside : (b : tie.After-boundary_of-width) → Boundary (before (start b)) (take (start b).args.count (start b).args.order.now) (out b) b.boundary_of-width.result
+outside b = b.boundary_of-width.ensures (before (start b)) (start b).requires.0.few (start b).requires.2
 
-narrow : (b : tie.After-boundary-of) → b.boundary-of.result ≤ 2
+narrow : (b : tie.After-boundary_of-width) → b.boundary_of-width.result ≤ 2
 narrow b = out_narrow (start b).requires.0 (outside b)
 
-minima-requires : tie.Need-minima-requires
+minima-requires : tie.Need-minima-best-requires
 minima-requires c κs =
-    let b = c.before.before.before in
-    let w = (start b).requires.0 in
-    (record { constant = omega arith; linear = w.within.linear; edges = w.within.edges }, members_listed w, out_listed w (outside b), narrow b)
+    let b = c in
+    let w = (start b.before).requires.0 in
+    (record { constant = omega arith; linear = w.within.linear; edges = w.within.edges }, members_listed w, out_listed w (outside b.before), narrow b.before)
 
-place-requires : tie.Need-place-requires
-place-requires c κs = omega (arith, narrow c.before.before.before.before.before)
+place-requires : tie.Need-place-first-requires
+place-requires c κs = omega (arith, narrow c.before.before.before)
 
-place-requires-2 : tie.Need-place-requires-2
-place-requires-2 c κs = omega (arith, narrow c.before.before.before.before.before.before.before)
+place-requires-2 : tie.Need-place-second-requires
+place-requires-2 c κs = omega (arith, narrow c.before.before.before.before.before)
 
 -- what has been found, from the boundary's second decision on
-module _ (q : tie.After-place2) where
-  abbrev p : tie.After-place
+module _ (q : tie.After-place-second) where
+  abbrev p : tie.After-place-first
   p = q.before.before
 
-  abbrev m : tie.After-minima
+  abbrev m : tie.After-minima-best
   m = q.before.before.before.before
 
-  abbrev b : tie.After-boundary-of
-  b = m.before.before.before.before
+  abbrev b : tie.After-boundary_of-width
+  b = m.before.before
 
   abbrev s : tie.Start
   s = start b
 
-  worked : Worked (before s) s.args.order.now s.args.count (out b) b.boundary-of.result p.place.result q.place2.result m.minima.result.masks m.minima.result.table
-  worked = record { block = s.pre.0; outside = outside b; one = p.place.ensures; two = q.place2.ensures; lowest = m.minima.ensures }
+  worked : Worked (before s) s.args.order.now s.args.count (out b) b.boundary_of-width.result p.place-first.result q.place-second.result m.minima-best.result.masks m.minima-best.result.table
+  worked = record { block = s.requires.0; outside = outside b; one = p.place-first.ensures; two = q.place-second.ensures; lowest = m.minima-best.ensures }
 
-block-steps-requires : tie.Need-block-steps-requires
-block-steps-requires c κs = let q = c.before.before in (members_listed (s q).requires.0, out_beside (worked q), (s q).requires.1)
+block-steps-requires : tie.Need-block_steps-grown-requires
+block-steps-requires c κs = let q = c in (members_listed (s q.before.before).requires.0, out_beside (worked q.before.before), (s q.before.before).requires.1)
 
-drop-all-requires : tie.Need-drop-all-requires
-drop-all-requires c κs = members_listed (s c.before.before.before.before.before.before.before).pre.0
+drop-all-requires : tie.Need-drop_all-requires
+drop-all-requires c κs = members_listed (s c.before.before.before.before.before.before.before).requires.0
 
 -- the members have left
-module _ (d : tie.After-drop-all) where
-  abbrev steps : tie.After-block-steps
+module _ (d : tie.After-drop_all) where
+  abbrev steps : tie.After-block_steps-grown
   steps = d.before.before.before.before.before
 
-  abbrev q : tie.After-place2
+  abbrev q : tie.After-place-second
   q = steps.before.before.before
 
   abbrev after : Graph
-  after = held (s q).args.f d.drop_all.last.0 d.drop_all.last.1.0 d.drop_all.last.1.1.1.0
+  after = held (s q).args.f d.drop_all.new.lin d.drop_all.new.edges d.drop_all.new.states
 
-  dropped : (after ≡ drop_all (take (s q).args.count (s q).args.order.now) (before (s q))) × Shows (s q).args.f.n d.drop_all.last.1.0 d.drop_all.last.1.1.0
-  dropped = d.drop_all.ensures (s q).args.f.n (s q).args.f.constant (s q).pre.0.few (s q).pre.2
+  dropped : (after ≡ drop_all (take (s q).args.count (s q).args.order.now) (before (s q))) × Shows (s q).args.f.n d.drop_all.new.edges d.drop_all.new.masks
+  dropped = d.drop_all.ensures (s q).args.f.n (s q).args.f.constant (s q).requires.0.few (s q).requires.2
 
-absorb-requires : tie.Need-absorb-requires
-absorb-requires c κs = let d = c.before.before.before.before in table_fits (worked (q d)) (after d) (dropped d).0
+absorb-requires : tie.Need-absorb-left-requires
+absorb-requires c κs = let d = c in table_fits (worked (q d.before.before.before.before)) (after d.before.before.before.before) (dropped d.before.before.before.before).0
 
 returns : tie.Need-returns
 returns c =
-    let d = c.before.before.before.before.before in
-    let w = worked (q d) in (
-      block_left w (after d) _ (dropped d).0 (c.absorb.ensures.0 _),
-      c.absorb.ensures.1 (s (q d)).args.f.n (both_outside w) (dropped d).1,
-      λ ss h. subst (λ (more : List rule.Step). StepsKept (steps d).block-steps.result (ss ++ more)) (block_grown w) ((steps d).block-steps.ensures ss h),
+    let d = c in
+    let w = worked (q d.before.before.before.before.before) in (
+      block_left w (after d.before.before.before.before.before) _ (dropped d.before.before.before.before.before).0 (c.absorb-left.ensures.0 _),
+      c.absorb-left.ensures.1 (s (q d.before.before.before.before.before)).args.f.n (both_outside w) (dropped d.before.before.before.before.before).1,
+      λ ss h. subst (λ (more : List rule.Step). StepsKept (steps d.before.before.before.before.before).block_steps-grown.result (ss ++ more)) (block_grown w) ((steps d.before.before.before.before.before).block_steps-grown.ensures ss h),
     )
 
-pub eliminate-block-spec : {M : Type 1} → statement M
-eliminate-block-spec =
+pub eliminate_block_spec : {M : Type 1} → statement M
+eliminate_block_spec =
     tie.close
     (tie.spec
     boundary-of-requires

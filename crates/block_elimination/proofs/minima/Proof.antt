@@ -20,65 +20,65 @@ use Rattle.block_elimination.proofs.minima.Tie as tie
 abbrev own : List ℤ → List ℤ → List ℕ → ℕ → List ℕ → ℕ → ℕ → ℕ → ℤ
 own lin edges order count out width f = inner (weights lin edges) (take width out) f (take count order)
 
-abbrev invariant-loop : tie.invariant-loop
+abbrev invariant-loop : tie.invariant-loop-f
 invariant-loop lin edges order count out width size masks₀ table₀ f₀ masks table f =
     (f ≤ size) × (size ≡ 2 ^ width) × Lowest (own lin edges order count out width) count f masks table
 
-abbrev decreases-loop : tie.decreases-loop
+abbrev decreases-loop : tie.decreases-loop-f
 decreases-loop lin edges order count out width size masks₀ table₀ f₀ masks table f = size - f
 
-shl-size : tie.Need-overflow-shl-size invariant-loop decreases-loop
+shl-size : tie.Need-overflow_shl-size invariant-loop decreases-loop
 shl-size c = omega (arith, c.requires.3)
 
-loop-holds : tie.Need-loop-init invariant-loop decreases-loop
+loop-holds : tie.Need-loop-f-init invariant-loop decreases-loop
 loop-holds c =
     let a = c.args in
     (omega arith, single_is a.width (omega (arith, c.requires.3)), lowest_none (own a.lin.now a.edges.now a.order.now a.count a.out.now a.width) a.count)
 
-cheapest-mask-requires : tie.Need-cheapest-mask-requires invariant-loop decreases-loop
-cheapest-mask-requires c κs = let s = c.before.before in s.requires
+cheapest-mask-requires : tie.Need-cheapest_mask-best-requires invariant-loop decreases-loop
+cheapest-mask-requires c κs = let s = c in s.requires
 
 -- in a turn
-module _ (c : tie.In-loop invariant-loop decreases-loop) where
-  room : c.before.loop.f < 4
-  room = omega (arith, pow_mono {j = 2} c.before.before.requires.3)
+module _ (c : tie.In-loop-f invariant-loop decreases-loop) where
+  room : c.loop-f.f < 4
+  room = omega (arith, pow_mono {j = 2} c.requires.3)
 
-mul-masks : tie.Need-overflow-mul-masks invariant-loop decreases-loop
+mul-masks : tie.Need-offset_bounds-masks-f invariant-loop decreases-loop
 mul-masks c = omega (arith, room c.before.before)
 
-array-write-masks : tie.Need-array-write-masks invariant-loop decreases-loop
+array-write-masks : tie.Need-bounds-masks-f invariant-loop decreases-loop
 array-write-masks c = room c.before.before
 
-mul-table : tie.Need-overflow-mul-table invariant-loop decreases-loop
+mul-table : tie.Need-offset_bounds-table-f invariant-loop decreases-loop
 mul-table c = omega (arith, room c.before.before)
 
-array-set-from-table : tie.Need-array-set-from-table invariant-loop decreases-loop
+array-set-from-table : tie.Need-bounds-table-f invariant-loop decreases-loop
 array-set-from-table c = omega (arith, room c.before.before)
 
-add-f : tie.Need-overflow-add-f invariant-loop decreases-loop
+add-f : tie.Need-overflow_add-f invariant-loop decreases-loop
 add-f c = omega (arith, room c.before.before)
 
-loop-less : tie.Need-loop-smaller invariant-loop decreases-loop
+loop-less : tie.Need-loop-f-smaller invariant-loop decreases-loop
 loop-less c = omega arith
 
-loop-again : tie.Need-loop-preserved invariant-loop decreases-loop
+loop-again : tie.Need-loop-f-preserved invariant-loop decreases-loop
 loop-again c =
-    let t = c.before.before in
-    let l = t.before.loop in
-    let a = t.before.before.args in
-    let m = c.before.cheapest-mask in
+    let t = c in
+    let l = t.loop-f in
+    let a = t.args in
+    let m = c.cheapest_mask-best in
     let f : SFits w64 m.result.cost = simp ints (omega (arith, m.ensures.bounded)) in
-    (omega arith, l.invariant.1, lowest_more (own a.lin.now a.edges.now a.order.now a.count a.out.now a.width) a.count l.f l.masks l.table m.result.mask m.result.cost _ (room t) l.invariant.2 m.ensures (rd f))
+    (omega arith, l.invariant.1, lowest_more (own a.lin.now a.edges.now a.order.now a.count a.out.now a.width) a.count l.f l.masks l.table m.result.mask m.result.cost _ (room t.before.before) l.invariant.2 m.ensures (rd f))
 
 returns : tie.Need-returns invariant-loop decreases-loop
 returns c =
-    let l = c.before.loop in
-    let a = c.before.before.args in
+    let l = c.loop-f in
+    let a = c.args in
     let last : l.f ≡ 2 ^ a.width = omega (arith, l.invariant.1) in
     subst (λ (k : ℕ). Lowest (own a.lin.now a.edges.now a.order.now a.count a.out.now a.width) a.count k l.masks l.table) last l.invariant.2
 
-pub minima-spec : {M : Type 1} → statement M
-minima-spec =
+pub minima_spec : {M : Type 1} → statement M
+minima_spec =
     tie.close
     (tie.spec
     invariant-loop

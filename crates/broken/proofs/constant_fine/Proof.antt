@@ -6,5 +6,6 @@ use Rattle.broken.proofs.constant_fine.Tie as tie
 returns : tie.Need-returns
 returns c = rw (rd c.ranges.z) (within_limit c.args.z)
 
-pub constant-fine-spec : {M : Type 1} → statement M
-constant-fine-spec = tie.close (tie.spec returns)
+pub constant_fine_spec : {M : Type 1} → statement M
+constant_fine_spec = tie.close (tie.spec
+    returns)

@@ -7,5 +7,6 @@ returns : tie.Need-returns
 unfolding all
 returns c = simp (and_assoc, and-true)
 
-pub is-none-spec : {M : Type 1} → statement M
-is-none-spec = tie.close (tie.spec returns)
+pub is_none_spec : {M : Type 1} → statement M
+is_none_spec = tie.close (tie.spec
+    returns)

@@ -14,26 +14,26 @@ use Rattle.broken.proofs.zero_bytes.Tie as tie
 abbrev is_zero : List ℕ → ℕ → Bool
 is_zero bytes k = eqb (get_or bytes k 0) 0
 
-abbrev invariant-loop : tie.invariant-loop
+abbrev invariant-loop : tie.invariant-loop-k
 invariant-loop bytes start end zero₀ k₀ zero k = (zero && all (is_zero bytes) (from k (end - k))) ≡ all (is_zero bytes) (from start (end - start))
 
-abbrev decreases-loop : tie.decreases-loop
+abbrev decreases-loop : tie.decreases-loop-k
 decreases-loop bytes start end zero₀ k₀ zero k = end - k
 
-loop-again : tie.Need-loop-preserved invariant-loop decreases-loop
+loop-again : tie.Need-loop-k-preserved invariant-loop decreases-loop
 loop-again c =
-    let l = c.before.before.loop in
-    let a = c.before.before.before.args in
+    let l = c.loop-k in
+    let a = c.args in
     kept_turn (is_zero a.bytes.now) l.k a.end l.zero (omega arith) ∙ l.invariant
 
 returns : tie.Need-returns invariant-loop decreases-loop
 returns c =
-    let l = c.before.loop in
-    let a = c.before.before.args in
+    let l = c.loop-k in
+    let a = c.args in
     kept_over (is_zero a.bytes.now) l.k a.end l.zero (omega arith) ∙ l.invariant
 
-pub zero-bytes-spec : {M : Type 1} → statement M
-zero-bytes-spec =
+pub zero_bytes_spec : {M : Type 1} → statement M
+zero_bytes_spec =
     tie.close
     (tie.spec
     invariant-loop

@@ -1,4 +1,4 @@
-use Rattle.std.proofs.Common.{rules, arith, ap, length}
+use Rattle.std.proofs.Common.{arith, ap, length}
 use Rattle.decimal.specs.WriteLaws.{decimal_none, decimal_last, decimal_more, decimal_more_length}
 use Rattle.decimal.specs.Puts.{none, one, ◌then◌}
 use Rattle.decimal.proofs.+put_digits.Goals as goal

@@ -1,6 +1,5 @@
 use Prim.Native.Nat.{◌+◌, ◌*◌}
 use native.Mathlib.Omega.{arith}
-use borrow.Author.Rules.{rules}
 use borrow.Author.Tests.{lt-leb, le-leb}
 use Rattle.decimal.proofs.is_within.Statement.{statement}
 use Rattle.decimal.proofs.is_within.Tie as tie

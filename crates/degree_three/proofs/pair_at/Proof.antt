@@ -18,7 +18,10 @@ each (suc (suc zero)) h = refl
 each (suc (suc (suc p))) h = absurd (omega arith)
 
 returns : tie.Need-returns
-returns c = each c.before.args.p c.before.requires
+returns c = each c.args.p c.requires
 
-pub pair-at-spec : {M : Type 1} → statement M
-pair-at-spec = tie.close (tie.spec (λ c. search rules) (λ c. search rules) returns)
+pub pair_at_spec : {M : Type 1} → statement M
+pair_at_spec = tie.close (tie.spec
+    (λ c. search rules)
+    (λ c. search rules)
+    returns)

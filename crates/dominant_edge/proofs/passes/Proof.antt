@@ -2,11 +2,13 @@ use Rattle.whole.specs.Ints.{rd}
 use Rattle.dominant_edge.proofs.passes.Statement.{statement}
 use Rattle.dominant_edge.proofs.passes.Tie as tie
 
-returns : tie.Need-returns
-returns c = cc (rd c.before.ranges.upper, rd c.before.ranges.lower)
+returns : tie.Need-returns-then-upper-le0
+returns c = cc (rd c.ranges.upper, rd c.ranges.lower)
 
-returns-2 : tie.Need-returns-2
-returns-2 c = cc (rd c.before.ranges.upper)
+returns-2 : tie.Need-returns-else-upper-le0
+returns-2 c = cc (rd c.ranges.upper)
 
-pub passes-spec : {M : Type 1} → statement M
-passes-spec = tie.close (tie.spec returns returns-2)
+pub passes_spec : {M : Type 1} → statement M
+passes_spec = tie.close (tie.spec
+    returns
+    returns-2)

@@ -21,36 +21,36 @@ upper_fits s t = fit (cond t (s.args.hi -ℤ s.args.w) (s.args.hi +ℤ s.args.w)
 lower-fits : (s : tie.Start) (t : Bool) → SFits w64 (cond t (s.args.lo +ℤ s.args.w) (s.args.lo -ℤ s.args.w))
 lower-fits s t = fit (cond t (s.args.lo +ℤ s.args.w) (s.args.lo -ℤ s.args.w)) (omega (arith, more_size t s.args.lo s.args.w s.requires.0 s.requires.2))
 
-sub-verdict : tie.Need-overflow-sub-verdict
-sub-verdict c = let s = c.before in rw (rd s.ranges.hi, rd s.ranges.w) (upper_fits s true)
+sub-verdict : tie.Need-overflow_sub-hi
+sub-verdict c = let s = c in rw (rd s.ranges.hi, rd s.ranges.w) (upper_fits s.before true)
 
-add-verdict : tie.Need-overflow-add-verdict
-add-verdict c = let s = c.before in rw (rd s.ranges.lo, rd s.ranges.w) (lower-fits s true)
+add-verdict : tie.Need-overflow_add-lo
+add-verdict c = let s = c in rw (rd s.ranges.lo, rd s.ranges.w) (lower-fits s.before true)
 
-add-verdict-2 : tie.Need-overflow-add-verdict-2
-add-verdict-2 c = let s = c.before in rw (rd s.ranges.hi, rd s.ranges.w) (upper_fits s false)
+add-verdict-2 : tie.Need-overflow_add-hi
+add-verdict-2 c = let s = c in rw (rd s.ranges.hi, rd s.ranges.w) (upper_fits s.before false)
 
-sub-verdict-2 : tie.Need-overflow-sub-verdict-2
-sub-verdict-2 c = let s = c.before in rw (rd s.ranges.lo, rd s.ranges.w) (lower-fits s false)
+sub-verdict-2 : tie.Need-overflow_sub-lo
+sub-verdict-2 c = let s = c in rw (rd s.ranges.lo, rd s.ranges.w) (lower-fits s.before false)
 
 -- the arm that the edge's sign takes
 arm : (t : Bool) (lo hi w : ℤ) (r : Test) → lt_z (pos 0) w ≡ t → r ≡ cond t (verdict_of (hi -ℤ w) (lo +ℤ w)) (verdict_of (hi +ℤ w) (lo -ℤ w)) → r ≡ test_of lo hi w
 arm t lo hi w r e h = h ∙ sym (ap (λ (b : Bool). cond b (verdict_of (hi -ℤ w) (lo +ℤ w)) (verdict_of (hi +ℤ w) (lo -ℤ w))) e)
 
-returns : tie.Need-returns
+returns : tie.Need-returns-then-w-gt0
 returns c =
-    let s = c.before.before in
-    arm true s.args.lo s.args.hi s.args.w c.verdict.result (rw (rd s.ranges.w) at c.before.if1.true)
+    let s = c in
+    arm true s.args.lo s.args.hi s.args.w c.verdict.result (rw (rd s.ranges.w) at c.if-w-gt0.true)
     (rw (rd (sub-verdict c.before), rd (add-verdict c.before), rd s.ranges.hi, rd s.ranges.lo, rd s.ranges.w) at c.verdict.ensures)
 
-returns-2 : tie.Need-returns-2
+returns-2 : tie.Need-returns
 returns-2 c =
-    let s = c.before.before in
-    arm false s.args.lo s.args.hi s.args.w c.verdict2.result (rw (rd s.ranges.w) at c.before.if1.false)
-    (rw (rd (add-verdict-2 c.before), rd (sub-verdict-2 c.before), rd s.ranges.hi, rd s.ranges.lo, rd s.ranges.w) at c.verdict2.ensures)
+    let s = c in
+    arm false s.args.lo s.args.hi s.args.w c.verdict-2.result (rw (rd s.ranges.w) at c.if-w-gt0.false)
+    (rw (rd (add-verdict-2 c.before), rd (sub-verdict-2 c.before), rd s.ranges.hi, rd s.ranges.lo, rd s.ranges.w) at c.verdict-2.ensures)
 
-pub test-edge-spec : {M : Type 1} → statement M
-test-edge-spec =
+pub test_edge_spec : {M : Type 1} → statement M
+test_edge_spec =
     tie.close
     (tie.spec
     sub-verdict

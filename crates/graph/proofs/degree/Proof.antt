@@ -8,32 +8,41 @@ use borrow.Author.Rules.{rules}
 use Rattle.graph.proofs.degree.Statement.{statement}
 use Rattle.graph.proofs.degree.Tie as tie
 
-abbrev invariant-loop : tie.invariant-loop
+abbrev invariant-loop : tie.invariant-loop-rest
 invariant-loop masks i d₀ rest₀ d rest = (rest < 2 ^ 64) × (d + length (these rest) ≡ length (these rest₀))
 
-abbrev decreases-loop : tie.decreases-loop
+abbrev decreases-loop : tie.decreases-loop-rest
 decreases-loop masks i d₀ rest₀ d rest = rest
 
-loop-holds : tie.Need-loop-init invariant-loop decreases-loop
+loop-holds : tie.Need-loop-rest-init invariant-loop decreases-loop
 loop-holds c = (omega arith, omega arith)
 
-at : (t : tie.In-loop invariant-loop decreases-loop) → Turn t.before.loop.rest
-at t = turn t.before.loop.rest t.loop-test.true t.before.loop.invariant.0
+at : (t : tie.In-loop-rest invariant-loop decreases-loop) → Turn t.loop-rest.rest
+at t = turn t.loop-rest.rest t.loop-rest-test.true t.loop-rest.invariant.0
 
-add-d : tie.Need-overflow-add-d invariant-loop decreases-loop
-add-d c = omega (arith, c.before.loop.invariant.1, pigeon 64 (these_apart c.before.before.mask_at.result))
+add-d : tie.Need-overflow_add-d invariant-loop decreases-loop
+add-d c = omega (arith, c.loop-rest.invariant.1, pigeon 64 (these_apart c.mask_at-rest.result))
 
-loop-again : tie.Need-loop-preserved invariant-loop decreases-loop
+loop-again : tie.Need-loop-rest-preserved invariant-loop decreases-loop
 loop-again c =
-    let l = c.before.loop in
-    ((at c).smaller, omega (arith, l.invariant.1, these_length l.rest c.loop-test.true l.invariant.0))
+    let l = c.loop-rest in
+    ((at c).smaller, omega (arith, l.invariant.1, these_length l.rest c.loop-rest-test.true l.invariant.0))
 
 returns : tie.Need-returns invariant-loop decreases-loop
 returns c =
-    let l = c.before.loop in
-    omega (arith, l.invariant.1, ap length (these_end l.rest c.loop-test.false), ap (λ (m : ℕ). length (these m)) c.before.before.mask_at.ensures)
+    let l = c.loop-rest in
+    omega (arith, l.invariant.1, ap length (these_end l.rest c.loop-rest-test.false), ap (λ (m : ℕ). length (these m)) c.mask_at-rest.ensures)
 
-pub degree-spec : {M : Type 1} → statement M
-degree-spec =
+pub degree_spec : {M : Type 1} → statement M
+degree_spec =
     tie.close
-    (tie.spec invariant-loop decreases-loop (λ c κs. search rules) loop-holds add-d (λ c. search rules) (λ c. (at c).less) loop-again returns)
+    (tie.spec
+    invariant-loop
+    decreases-loop
+    (λ c κs. search rules)
+    loop-holds
+    add-d
+    (λ c. search rules)
+    (λ c. (at c).less)
+    loop-again
+    returns)

@@ -7,6 +7,11 @@ returns : tie.Need-returns
 unfolding drop_to
 returns c n b h s = let w = c.wipe.ensures n h s in (rw w.0, w.1)
 
-pub drop-to-spec : {M : Type 1} → statement M
-drop-to-spec =
-    tie.close (tie.spec (λ c. search rules) (λ c. search rules) (λ c κs. search rules) (λ c. search rules) returns)
+pub drop_to_spec : {M : Type 1} → statement M
+drop_to_spec =
+    tie.close (tie.spec
+    (λ c. search rules)
+    (λ c. search rules)
+    (λ c κs. search rules)
+    (λ c. search rules)
+    returns)

@@ -13,27 +13,27 @@ use Prim.Native.Nat.{◌≤◌, ◌-◌}
 use Rattle.graph.proofs.load.Statement.{statement}
 use Rattle.graph.proofs.load.Tie as tie
 
-abbrev invariant-loop : tie.invariant-loop
+abbrev invariant-loop : tie.invariant-loop-k
 invariant-loop lin₀ weights k₀ lin k = (k ≤ length weights) × (lin ≡ take k weights ++ drop k lin₀)
 
-abbrev decreases-loop : tie.decreases-loop
+abbrev decreases-loop : tie.decreases-loop-k
 decreases-loop lin₀ weights k₀ lin k = length weights - k
 
-loop-holds : tie.Need-loop-init invariant-loop decreases-loop
+loop-holds : tie.Need-loop-k-init invariant-loop decreases-loop
 loop-holds c = (omega arith, refl)
 
-loop-again : tie.Need-loop-preserved invariant-loop decreases-loop
+loop-again : tie.Need-loop-k-preserved invariant-loop decreases-loop
 loop-again c =
-    let l = c.before.before.loop in
-    let a = c.before.before.before.args in
-    let f : SFits w64 (get_or a.weights.now l.k (pos 0)) = sfits_of c.w.given in
-    let n : length a.lin.now ≡ 64 = c.before.before.before.requires.1 in
+    let l = c.loop-k in
+    let a = c.args in
+    let f : SFits w64 (get_or a.weights.now l.k (pos 0)) = sfits_of c.w-1.given in
+    let n : length a.lin.now ≡ 64 = c.requires.1 in
     (omega arith, copy_next a.weights.now a.lin.now l.lin l.k _ (pos 0) (omega arith) (omega arith) l.invariant.1 (rd f))
 
 returns : tie.Need-returns invariant-loop decreases-loop
 returns c =
-    let l = c.before.loop in
-    let a = c.before.before.args in
+    let l = c.loop-k in
+    let a = c.args in
     let e : l.k ≡ length a.weights.now = omega arith in
     l.invariant.1 ∙ front_end a.weights.now a.lin.now l.k e
 

@@ -25,18 +25,22 @@ taken true false z e = refl
 taken false true z e = sym e
 taken false false z e = refl
 
-returns : tie.Need-returns
+returns : tie.Need-returns-then-w-ne0
 returns c k h =
-    let a = c.before.args in
-    bit_or_lem a.m (1 * 2 ^ a.j % 2 ^ 64) k ∙ ap (λ (b : Bool). bit a.m k || b) (bit_shifted a.j k c.before.requires)
-    ∙ put (bit a.m k) (eqb k a.j) (not (is_zero_z a.w)) (zero_not a.w c.if1.true)
+    let a = c.args in
+    bit_or_lem a.m (1 * 2 ^ a.j % 2 ^ 64) k ∙ ap (λ (b : Bool). bit a.m k || b) (bit_shifted a.j k c.requires)
+    ∙ put (bit a.m k) (eqb k a.j) (not (is_zero_z a.w)) (zero_not a.w c.if-w-ne0.true)
 
-returns-2 : tie.Need-returns-2
+returns-2 : tie.Need-returns
 returns-2 c k h =
-    let a = c.before.before.args in
+    let a = c.args in
     ap (λ (x : ℕ). bit x k) c.without.ensures
-    ∙ bit_less a.m (1 * 2 ^ a.j % 2 ^ 64) k ∙ ap (λ (b : Bool). bit a.m k && not b) (bit_shifted a.j k c.before.before.requires)
-    ∙ taken (bit a.m k) (eqb k a.j) (not (is_zero_z a.w)) (ap (λ (z : ℤ). not (is_zero_z z)) (sym (rd c.before.before.ranges.w) ∙ ap (to_z w64) c.before.if1.false))
+    ∙ bit_less a.m (1 * 2 ^ a.j % 2 ^ 64) k ∙ ap (λ (b : Bool). bit a.m k && not b) (bit_shifted a.j k c.requires)
+    ∙ taken (bit a.m k) (eqb k a.j) (not (is_zero_z a.w)) (ap (λ (z : ℤ). not (is_zero_z z)) (sym (rd c.ranges.w) ∙ ap (to_z w64) c.if-w-ne0.false))
 
-pub marked-spec : {M : Type 1} → statement M
-marked-spec = tie.close (tie.spec (λ c. search rules) returns (λ c κs. search rules) returns-2)
+pub marked_spec : {M : Type 1} → statement M
+marked_spec = tie.close (tie.spec
+    (λ c. search rules)
+    returns
+    (λ c κs. search rules)
+    returns-2)

@@ -13,33 +13,33 @@ use Prim.Native.Nat.{◌≤◌, ◌-◌, ◌+◌, ◌*◌}
 use Rattle.graph.proofs.row_of.Statement.{statement}
 use Rattle.graph.proofs.row_of.Tie as tie
 
-abbrev invariant-loop : tie.invariant-loop
+abbrev invariant-loop : tie.invariant-loop-j
 invariant-loop edges i n row₀ j₀ row j = (j ≤ n) × (row ≡ tab (λ j. get_or edges (64 * i + j) (pos 0)) j ++ drop j (replicate 64 (pos 0)))
 
-abbrev decreases-loop : tie.decreases-loop
+abbrev decreases-loop : tie.decreases-loop-j
 decreases-loop edges i n row₀ j₀ row j = n - j
 
-loop-holds : tie.Need-loop-init invariant-loop decreases-loop
+loop-holds : tie.Need-loop-j-init invariant-loop decreases-loop
 unfolding tab
 loop-holds c = (omega arith, refl)
 
-loop-again : tie.Need-loop-preserved invariant-loop decreases-loop
+loop-again : tie.Need-loop-j-preserved invariant-loop decreases-loop
 loop-again c =
-    let l = c.before.before.loop in
-    let a = c.before.before.before.args in
-    let f : SFits w64 (get_or a.edges.now (64 * a.i + l.j) (pos 0)) = sfits_of c.w.given in
+    let l = c.loop-j in
+    let a = c.args in
+    let f : SFits w64 (get_or a.edges.now (64 * a.i + l.j) (pos 0)) = sfits_of c.w-1.given in
     (omega arith, fill_step (λ j. get_or a.edges.now (64 * a.i + j) (pos 0)) (replicate 64 (pos 0)) l.row l.j _ (omega arith) l.invariant.1 (rd f))
 
 returns : tie.Need-returns invariant-loop decreases-loop
 returns c =
-    let l = c.before.loop in
-    let n = c.before.before.args.n in
+    let l = c.loop-j in
+    let n = c.args.n in
     let e : l.j ≡ n = omega arith in
     let h : n ≤ 64 = omega arith in
     l.invariant.1 ∙ rw (e, drop_replicate n 64 (pos 0) h)
 
-pub row-of-spec : {M : Type 1} → statement M
-row-of-spec =
+pub row_of_spec : {M : Type 1} → statement M
+row_of_spec =
     tie.close
     (tie.spec
     invariant-loop

@@ -9,15 +9,18 @@ use borrow.Author.Rules.{rules}
 use Rattle.low_degree.proofs.table_of.Statement.{statement}
 use Rattle.low_degree.proofs.table_of.Tie as tie
 
-deltas-requires : tie.Need-deltas-requires
+deltas-requires : tie.Need-deltas-d-requires
 deltas-requires c κs = rw (rd c.ranges.a) (c.requires.0, c.requires.1)
 
 returns : tie.Need-returns
 returns c = λ g i w is.
-    let s = c.before.before in
+    let s = c in
     let near = s.args.near in
-    let d : c.before.deltas.result ≡ tab (delta g i) 8 = c.before.deltas.ensures ∙ ap (λ (z : ℤ). deltas_of z near.weights) (rd s.ranges.a ∙ w) ∙ deltas_table g i near is s.requires.2 in
-    (d, c.tees.ensures ∙ ap tees_of d ∙ tees_table g i near is s.requires.2)
+    let d : c.deltas-d.result ≡ tab (delta g i) 8 = c.deltas-d.ensures ∙ ap (λ (z : ℤ). deltas_of z near.weights) (rd s.ranges.a ∙ w) ∙ deltas_table g i near is s.requires.2 in
+    (d, c.tees-t.ensures ∙ ap tees_of d ∙ tees_table g i near is s.requires.2)
 
-pub table-of-spec : {M : Type 1} → statement M
-table-of-spec = tie.close (tie.spec deltas-requires (λ c κs. search rules) returns)
+pub table_of_spec : {M : Type 1} → statement M
+table_of_spec = tie.close (tie.spec
+    deltas-requires
+    (λ c κs. search rules)
+    returns)

@@ -13,34 +13,34 @@ use mir.Syntax.{w64}
 use Rattle.outputs.proofs.write_linear.Statement.{statement}
 use Rattle.outputs.proofs.write_linear.Tie as tie
 
-abbrev invariant-loop : tie.invariant-loop
+abbrev invariant-loop : tie.invariant-loop-k
 invariant-loop out₀ lin list n k₀ out k = (k ≤ 64) × (length out ≡ length out₀) × (out ≡ tab (linear_at lin list n) k ++ drop k out₀)
 
-abbrev decreases-loop : tie.decreases-loop
+abbrev decreases-loop : tie.decreases-loop-k
 decreases-loop out₀ lin list n k₀ out k = 64 - k
 
-loop-holds : tie.Need-loop-init invariant-loop decreases-loop
-loop-holds c = let a = c.before.args in (omega arith, refl, fill_none (linear_at a.lin.now a.r.list a.r.len) a.out.now)
+loop-holds : tie.Need-loop-k-init invariant-loop decreases-loop
+loop-holds c = let a = c.args in (omega arith, refl, fill_none (linear_at a.lin.now a.r.list a.r.len) a.out.now)
 
-loop-again : tie.Need-loop-preserved invariant-loop decreases-loop
+loop-again : tie.Need-loop-k-preserved invariant-loop decreases-loop
 loop-again c =
-    let l = c.before.before.before.loop in
-    let a = c.before.before.before.before.before.args in
-    let f : SFits w64 c.linear-entry.result = sfits_of c.linear-entry.type-inv in
-    let v = rd f ∙ c.linear-entry.ensures in (
+    let l = c.loop-k in
+    let a = c.args in
+    let f : SFits w64 c.linear_entry-w.result = sfits_of c.linear_entry-w.type_inv in
+    let v = rd f ∙ c.linear_entry-w.ensures in (
       omega arith,
-      length-set l.out l.k (to_z w64 (of_z w64 c.linear-entry.result)) ∙ l.invariant.1,
+      length-set l.out l.k (to_z w64 (of_z w64 c.linear_entry-w.result)) ∙ l.invariant.1,
       fill_step (linear_at a.lin.now a.r.list a.r.len) a.out.now l.out l.k _ (omega arith) l.invariant.2 v,
     )
 
 returns : tie.Need-returns invariant-loop decreases-loop
 returns c =
-    let l = c.before.loop in
-    let s = c.before.before.before in
+    let l = c.loop-k in
+    let s = c in
     l.invariant.2 ∙ fill_end (linear_at s.args.lin.now s.args.r.list s.args.r.len) s.args.out.now l.k 64 s.requires.0 (omega arith)
 
-pub write-linear-spec : {M : Type 1} → statement M
-write-linear-spec =
+pub write_linear_spec : {M : Type 1} → statement M
+write_linear_spec =
     tie.close
     (tie.spec
     invariant-loop

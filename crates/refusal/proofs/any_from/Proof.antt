@@ -10,35 +10,35 @@ use Rattle.refusal.proofs.Laws.{some_hit, some_skip, some_end}
 use Rattle.refusal.proofs.any_from.Statement.{statement}
 use Rattle.refusal.proofs.any_from.Tie as tie
 
-abbrev invariant-loop : tie.invariant-loop
+abbrev invariant-loop : tie.invariant-loop-k
 invariant-loop list n k₀ k = (k ≤ length list) × (some (leb n) list ≡ some (leb n) (drop k list))
 
-abbrev decreases-loop : tie.decreases-loop
+abbrev decreases-loop : tie.decreases-loop-k
 decreases-loop list n k₀ k = length list - k
 
-loop-holds : tie.Need-loop-init invariant-loop decreases-loop
+loop-holds : tie.Need-loop-k-init invariant-loop decreases-loop
 loop-holds c = (omega arith, refl)
 
-returns : tie.Need-returns invariant-loop decreases-loop
+returns : tie.Need-returns-then-list-k invariant-loop decreases-loop
 returns c =
-    let l = c.before.before.before.loop in
-    let a = c.before.before.before.before.args in
-    sym (l.invariant.1 ∙ some_hit (leb a.n) a.list.now l.k (omega arith) (le-leb _ _ c.if1.true))
+    let l = c.loop-k in
+    let a = c.args in
+    sym (l.invariant.1 ∙ some_hit (leb a.n) a.list.now l.k (omega arith) (le-leb _ _ c.if-list-k.true))
 
-loop-again : tie.Need-loop-preserved invariant-loop decreases-loop
+loop-again : tie.Need-loop-k-preserved invariant-loop decreases-loop
 loop-again c =
-    let l = c.before.before.before.loop in
-    let a = c.before.before.before.before.args in
-    (omega arith, l.invariant.1 ∙ some_skip (leb a.n) a.list.now l.k (omega arith) (lt-leb _ _ c.if1.false))
+    let l = c.loop-k in
+    let a = c.args in
+    (omega arith, l.invariant.1 ∙ some_skip (leb a.n) a.list.now l.k (omega arith) (lt-leb _ _ c.if-list-k.false))
 
-returns-2 : tie.Need-returns-2 invariant-loop decreases-loop
+returns-2 : tie.Need-returns invariant-loop decreases-loop
 returns-2 c =
-    let l = c.before.loop in
-    let a = c.before.before.args in
+    let l = c.loop-k in
+    let a = c.args in
     sym (l.invariant.1 ∙ some_end (leb a.n) a.list.now l.k (omega arith))
 
-pub any-from-spec : {M : Type 1} → statement M
-any-from-spec =
+pub any_from_spec : {M : Type 1} → statement M
+any_from_spec =
     tie.close
     (tie.spec
     invariant-loop

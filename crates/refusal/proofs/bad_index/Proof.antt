@@ -7,6 +7,11 @@ returns : tie.Need-returns
 unfolding one_of
 returns c = cc
 
-pub bad-index-spec : {M : Type 1} → statement M
-bad-index-spec =
-    tie.close (tie.spec (λ c κs. search rules) (λ c κs. search rules) (λ c κs. search rules) (λ c κs. search rules) returns)
+pub bad_index_spec : {M : Type 1} → statement M
+bad_index_spec =
+    tie.close (tie.spec
+    (λ c κs. search rules)
+    (λ c κs. search rules)
+    (λ c κs. search rules)
+    (λ c κs. search rules)
+    returns)

@@ -8,8 +8,8 @@ returns : tie.Need-returns
 unfolding bad_lengths one_of
 returns c = cc
 
-pub bad-lengths-spec : {M : Type 1} → statement M
-bad-lengths-spec =
+pub bad_lengths_spec : {M : Type 1} → statement M
+bad_lengths_spec =
     tie.close
     (tie.spec
     (λ c κs. search rules)

@@ -7,8 +7,8 @@ returns : tie.Need-returns
 unfolding first_row bad_index
 returns c = cc
 
-pub list-rows-spec : {M : Type 1} → statement M
-list-rows-spec =
+pub list_rows_spec : {M : Type 1} → statement M
+list_rows_spec =
     tie.close
     (tie.spec
     (λ c κs. search rules)

@@ -14,16 +14,15 @@ use Rattle.refusal.proofs.refusal.Tie as tie
 returns : tie.Need-returns
 unfolding first_row bad_lengths bad_index bad_lent bad_fixing too_heavy one_of
 returns c =
-    let lists = c.before.before.before.before.before.before in
-    let a = lists.before.before.before.before.before.before.before.before.args in
-    let o = objective a.n a.weights.now a.firsts.now a.seconds.now a.term-weights.now a.fixings.now a.switches a.budget in
-    let lent : lists.before.either4.result ≡ bad_lent o a.l a.e a.others = cc in
+    let a = c.args in
+    let o = objective a.n a.weights.now a.firsts.now a.seconds.now a.term_weights.now a.fixings.now a.switches a.budget in
+    let lent : c.either-lent.result ≡ bad_lent o a.l a.e a.others = cc in
     let rest : List (ℕ × Bool) = (4, bad_fixing o) ∷ (5, ltb 15 a.switches) ∷ weight_rows o in
-    let below : c.before.row3.result ≡ first_row rest = cc in
-    c.first_of.ensures ∙ rows_below (list_rows o (bad_lent o a.l a.e a.others)) rest refl (lists.list-rows.ensures ∙ ap (λ (t : Bool). first_row (list_rows o t)) lent) below
+    let below : c.row.result ≡ first_row rest = cc in
+    c.first_of.ensures ∙ rows_below (list_rows o (bad_lent o a.l a.e a.others)) rest refl (c.list_rows-lists.ensures ∙ ap (λ (t : Bool). first_row (list_rows o t)) lent) below
 
-pub refusal-spec : {M : Type 1} → statement M
-refusal-spec =
+pub refusal_spec : {M : Type 1} → statement M
+refusal_spec =
     tie.close
     (tie.spec
     (λ c κs. search rules)

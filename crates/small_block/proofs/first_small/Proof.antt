@@ -12,76 +12,76 @@ use Rattle.small_block.specs.Seeking.{Seeking, seek_none, seek_skip, seek_free, 
 use Rattle.small_block.proofs.first_small.Statement.{statement}
 use Rattle.small_block.proofs.first_small.Tie as tie
 
-abbrev invariant-loop : tie.invariant-loop
+abbrev invariant-loop : tie.invariant-loop-rest
 invariant-loop near live c removed rest₀ seen₀ rest seen = (rest < 2 ^ 64) × (seen < 2 ^ 64) × Seeking (near_by near) (c ∷ removed_by removed) (these live) rest seen
 
-abbrev decreases-loop : tie.decreases-loop
+abbrev decreases-loop : tie.decreases-loop-rest
 decreases-loop near live c removed rest₀ seen₀ rest seen = rest
 
-loop-holds : tie.Need-loop-init invariant-loop decreases-loop
+loop-holds : tie.Need-loop-rest-init invariant-loop decreases-loop
 loop-holds c =
-    (omega arith, omega arith, record { past = c.before.args.c ∷ removed_by c.before.args.removed; leads = refl; marks = c.set-aside.ensures; holds = λ k m. m })
+    (omega arith, omega arith, record { past = c.args.c ∷ removed_by c.args.removed; leads = refl; marks = c.set_aside-seen.ensures; holds = λ k m. m })
 
-at : (t : tie.In-loop invariant-loop decreases-loop) → Turn t.before.loop.rest
-at t = turn t.before.loop.rest t.loop-test.true t.before.loop.invariant.0
+at : (t : tie.In-loop-rest invariant-loop decreases-loop) → Turn t.loop-rest.rest
+at t = turn t.loop-rest.rest t.loop-rest-test.true t.loop-rest.invariant.0
 
-cast-s : tie.Need-overflow-cast-s invariant-loop decreases-loop
-cast-s c = omega (arith, trailing_le 64 c.before.loop.rest)
+cast-s : tie.Need-overflow_cast-s invariant-loop decreases-loop
+cast-s c = omega (arith, trailing_le 64 c.loop-rest.rest)
 
-sub-rest : tie.Need-overflow-sub-rest invariant-loop decreases-loop
+sub-rest : tie.Need-overflow_sub-rest invariant-loop decreases-loop
 sub-rest c = omega arith
 
 has-requires : tie.Need-has-requires invariant-loop decreases-loop
 has-requires c κs = (at c).below
 
-grow-requires : tie.Need-grow-requires invariant-loop decreases-loop
+grow-requires : tie.Need-grow-g-requires invariant-loop decreases-loop
 grow-requires c κs =
-    let t = c.before.before in
-    let s = t.before.before.before in
-    (s.requires.0, s.requires.1, (at t).below, seek_free t.before.loop.invariant.2 t.loop-test.true t.before.loop.invariant.0 (sym c.before.has.ensures ∙ not-true c.before.has.result c.if1.true))
+    let t = c in
+    let s = t in
+    (s.requires.0, s.requires.1, (at t.before.before).below, seek_free t.loop-rest.invariant.2 t.loop-rest-test.true t.loop-rest.invariant.0 (sym c.has.ensures ∙ not-true c.has.result c.if-not-has.true-raw))
 
-returns : tie.Need-returns invariant-loop decreases-loop
+returns : tie.Need-returns-then-is_small invariant-loop decreases-loop
 returns c =
-    let n = c.before.before.before in
-    let t = n.before.before in
-    let g = c.before.before.grow in (
+    let n = c in
+    let t = n in
+    let g = c.grow-g in (
       g.ensures.long,
-      seek_found t.before.loop.invariant.2 t.loop-test.true t.before.loop.invariant.0 (sym n.before.has.ensures ∙ not-true n.before.has.result n.if1.true)
-          g.result.order g.result.count g.result.seen g.ensures (sym c.before.is-small.ensures ∙ c.if2.true),
+      seek_found t.loop-rest.invariant.2 t.loop-rest-test.true t.loop-rest.invariant.0 (sym n.has.ensures ∙ not-true n.has.result n.if-not-has.true-raw)
+          g.result.order g.result.count g.result.seen g.ensures (sym c.is_small.ensures ∙ c.if-is_small.true),
     )
 
-loop-less : tie.Need-loop-smaller invariant-loop decreases-loop
+loop-less : tie.Need-loop-rest-smaller-then-not-has invariant-loop decreases-loop
 loop-less c = (at c.before.before.before.before.before.before).less
 
-loop-again : tie.Need-loop-preserved invariant-loop decreases-loop
+loop-again : tie.Need-loop-rest-preserved-then-not-has invariant-loop decreases-loop
 loop-again c =
-    let n = c.before.before.before.before in
-    let t = n.before.before in
-    let g = c.before.before.before.grow in
+    let n = c in
+    let t = n in
+    let g = c.grow-g in
     let mask : g.result.seen < 2 ^ 64 = omega arith in (
-      (at t).smaller,
-      or_lt 64 t.before.loop.seen g.result.seen t.before.loop.invariant.1 mask,
-      seek_on t.before.loop.invariant.2 t.loop-test.true t.before.loop.invariant.0 (sym n.before.has.ensures ∙ not-true n.before.has.result n.if1.true)
-          g.result.order g.result.count g.result.seen g.ensures (sym c.before.before.is-small.ensures ∙ c.before.if2.false),
+      (at t.before.before.before.before.before.before).smaller,
+      or_lt 64 t.loop-rest.seen g.result.seen t.loop-rest.invariant.1 mask,
+      seek_on t.loop-rest.invariant.2 t.loop-rest-test.true t.loop-rest.invariant.0 (sym n.has.ensures ∙ not-true n.has.result n.if-not-has.true-raw)
+          g.result.order g.result.count g.result.seen g.ensures (sym c.is_small.ensures ∙ c.if-is_small.false),
     )
 
-loop-less-2 : tie.Need-loop-smaller-2 invariant-loop decreases-loop
+loop-less-2 : tie.Need-loop-rest-smaller invariant-loop decreases-loop
 loop-less-2 c = (at c.before.before).less
 
-loop-again-2 : tie.Need-loop-preserved-2 invariant-loop decreases-loop
+loop-again-2 : tie.Need-loop-rest-preserved invariant-loop decreases-loop
 loop-again-2 c =
-    let t = c.before.before in
-    ((at t).smaller, t.before.loop.invariant.1, seek_skip t.before.loop.invariant.2 t.loop-test.true t.before.loop.invariant.0 (sym c.before.has.ensures ∙ not-false c.before.has.result c.if1.false))
+    let t = c in
+    ((at t.before.before).smaller, t.loop-rest.invariant.1, seek_skip t.loop-rest.invariant.2 t.loop-rest-test.true t.loop-rest.invariant.0 (sym c.has.ensures ∙ not-false c.has.result c.if-not-has.false-raw))
 
-returns-2 : tie.Need-returns-2 invariant-loop decreases-loop
+returns-2 : tie.Need-returns invariant-loop decreases-loop
 returns-2 c =
-    let l = c.before.before.loop in (
+    let l = c.loop-rest in (
       c.no_block.ensures.0,
-      no_block c.no_block.result.order c.no_block.result.count c.no_block.ensures.1 ∙ seek_none l.invariant.2 c.before.loop-test.false,
+      no_block c.no_block.result.order c.no_block.result.count c.no_block.ensures.1 ∙ seek_none l.invariant.2 c.loop-rest-test.false,
     )
 
-pub first-small-spec : {M : Type 1} → statement M
-first-small-spec =
+pub first_small_spec : {M : Type 1} → statement M
+first_small_spec =
     tie.close
     (tie.spec
     invariant-loop

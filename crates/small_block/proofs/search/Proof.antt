@@ -16,81 +16,81 @@ use Rattle.small_block.proofs.search.Tie as tie
 abbrev without-one : List ℕ → ℕ → ℕ → Block
 without-one near live r = over_cuts (near_by near) (these live) (r ∷ []) (these live)
 
-abbrev invariant-loop : tie.invariant-loop
+abbrev invariant-loop : tie.invariant-loop-rest
 invariant-loop near live rest₀ rest = (rest < 2 ^ 64) × (searched (near_by near) (these live) ≡ first_of (without-one near live) (these rest))
 
-abbrev decreases-loop : tie.decreases-loop
+abbrev decreases-loop : tie.decreases-loop-rest
 decreases-loop near live rest₀ rest = rest
 
-over-cuts-requires : tie.Need-over-cuts-requires invariant-loop decreases-loop
+over-cuts-requires : tie.Need-over_cuts-whole-requires invariant-loop decreases-loop
 over-cuts-requires c κs = c.requires
 
-returns : tie.Need-returns invariant-loop decreases-loop
+returns : tie.Need-returns-then-whole-ne0 invariant-loop decreases-loop
 returns c =
-    let g = c.before.before.over-cuts in
-    let a = c.before.before.before.args in (
+    let g = c.over_cuts-whole in
+    let a = c.args in (
       g.ensures.0,
-      search_found (near_by a.near.now) (these a.live) g.result.order g.result.count g.ensures.1 c.if1.true,
+      search_found (near_by a.near.now) (these a.live) g.result.order g.result.count g.ensures.1 c.if-whole-ne0.true,
     )
 
-loop-holds : tie.Need-loop-init invariant-loop decreases-loop
+loop-holds : tie.Need-loop-rest-init invariant-loop decreases-loop
 loop-holds c =
-    let g = c.before.before.over-cuts in
-    let a = c.before.before.before.args in
-    (omega arith, search_on (near_by a.near.now) (these a.live) g.result.order g.result.count g.ensures.1 c.if1.false)
+    let g = c.over_cuts-whole in
+    let a = c.args in
+    (omega arith, search_on (near_by a.near.now) (these a.live) g.result.order g.result.count g.ensures.1 c.if-whole-ne0.false)
 
-abbrev start : tie.In-loop invariant-loop decreases-loop → tie.Start invariant-loop decreases-loop
+abbrev start : tie.In-loop-rest invariant-loop decreases-loop → tie.Start invariant-loop decreases-loop
 start t = t.before.before.before.before.before
 
-at : (t : tie.In-loop invariant-loop decreases-loop) → Turn t.before.loop.rest
-at t = turn t.before.loop.rest t.loop-test.true t.before.loop.invariant.0
+at : (t : tie.In-loop-rest invariant-loop decreases-loop) → Turn t.loop-rest.rest
+at t = turn t.loop-rest.rest t.loop-rest-test.true t.loop-rest.invariant.0
 
-cast-r : tie.Need-overflow-cast-r invariant-loop decreases-loop
+cast-r : tie.Need-overflow_cast-r invariant-loop decreases-loop
 cast-r c = omega (arith, (at c).below)
 
-sub-rest : tie.Need-overflow-sub-rest invariant-loop decreases-loop
+sub-rest : tie.Need-overflow_sub-rest invariant-loop decreases-loop
 sub-rest c = omega arith
 
-over-cuts-requires-2 : tie.Need-over-cuts-requires-2 invariant-loop decreases-loop
+over-cuts-requires-2 : tie.Need-over_cuts-g-requires invariant-loop decreases-loop
 over-cuts-requires-2 c κs = (start c).requires
 
 -- a turn has looked at one removed decision
-module _ (c : tie.After-over-cuts2 invariant-loop decreases-loop) where
-  abbrev t : tie.In-loop invariant-loop decreases-loop
+module _ (c : tie.After-over_cuts-g invariant-loop decreases-loop) where
+  abbrev t : tie.In-loop-rest invariant-loop decreases-loop
   t = c.before
 
   abbrev block : ℕ → Block
   block = without-one (start t).args.near.now (start t).args.live
 
-  is : block_by c.over-cuts2.result.order c.over-cuts2.result.count ≡ block (count_trailing_zeros 64 t.before.loop.rest)
-  is = c.over-cuts2.ensures.1 ∙ ap (λ (xs : List ℕ). over_cuts (near_by (start t).args.near.now) (these (start t).args.live) xs (these (start t).args.live)) (removed_is (count_trailing_zeros 64 t.before.loop.rest) (at t).below)
+  is : block_by c.over_cuts-g.result.order c.over_cuts-g.result.count ≡ block (count_trailing_zeros 64 t.loop-rest.rest)
+  is = c.over_cuts-g.ensures.1 ∙ ap (λ (xs : List ℕ). over_cuts (near_by (start t).args.near.now) (these (start t).args.live) xs (these (start t).args.live)) (removed_is (count_trailing_zeros 64 t.loop-rest.rest) (at t).below)
 
-returns-2 : tie.Need-returns-2 invariant-loop decreases-loop
+returns-2 : tie.Need-returns-then-g-ne0 invariant-loop decreases-loop
 returns-2 c =
-    let o = c.before.before in
-    let l = (t o).before.loop in
-    let g = o.over-cuts2 in
-    (g.ensures.0, first_found (block o) l.rest (t o).loop-test.true l.inv.0 g.result.order g.result.count (is o) c.if2.true ∙ sym l.inv.1)
+    let o = c in
+    let l = (t o.before.before).loop-rest in
+    let g = o.over_cuts-g in
+    (g.ensures.0, first_found (block o.before.before) l.rest (t o.before.before).loop-rest-test.true l.invariant.0 g.result.order g.result.count (is o.before.before) c.if-g-ne0.true ∙ sym l.invariant.1)
 
-loop-less : tie.Need-loop-smaller invariant-loop decreases-loop
+loop-less : tie.Need-loop-rest-smaller invariant-loop decreases-loop
 loop-less c = (at c.before.before.before).less
 
-loop-again : tie.Need-loop-preserved invariant-loop decreases-loop
+loop-again : tie.Need-loop-rest-preserved invariant-loop decreases-loop
 loop-again c =
-    let o = c.before.before in
-    let l = (t o).before.loop in
-    let g = o.over-cuts2 in
-    ((at (t o)).smaller, l.inv.1 ∙ first_on (block o) l.rest (t o).loop-test.true l.inv.0 g.result.order g.result.count (is o) c.if2.false)
+    let o = c in
+    let l = (t o.before.before).loop-rest in
+    let g = o.over_cuts-g in
+    ((at (t o.before.before)).smaller, l.invariant.1 ∙ first_on (block o.before.before) l.rest (t o.before.before).loop-rest-test.true l.invariant.0 g.result.order g.result.count (is o.before.before) c.if-g-ne0.false)
 
-returns-3 : tie.Need-returns-3 invariant-loop decreases-loop
+returns-3 : tie.Need-returns invariant-loop decreases-loop
 returns-3 c =
-    let l = c.before.before.loop in
-    let a = c.before.before.before.before.before.before.args in
+    let l = c.loop-rest in
+    let a = c.args in
     let n = c.no_block in
-    (n.ensures.0, no_block n.result.order n.result.count n.ensures.1 ∙ first_none (without-one a.near.now a.live) l.rest c.before.loop-test.false ∙ sym l.invariant.1)
+    (n.ensures.0, no_block n.result.order n.result.count n.ensures.1 ∙ first_none (without-one a.near.now a.live) l.rest c.loop-rest-test.false ∙ sym l.invariant.1)
 
-pub search-spec : {M : Type 1} → statement M
-search-spec =
+pub search_spec : {M : Type 1} → statement M
+search_spec =
     tie.close
     (tie.spec
     invariant-loop

@@ -6,5 +6,7 @@ use Rattle.small_block.proofs.single.Tie as tie
 returns : tie.Need-returns
 returns c = single_is c.args.j c.requires
 
-pub single-spec : {M : Type 1} → statement M
-single-spec = tie.close (tie.spec (λ c. search rules) returns)
+pub single_spec : {M : Type 1} → statement M
+single_spec = tie.close (tie.spec
+    (λ c. search rules)
+    returns)

@@ -9,15 +9,19 @@ use Rattle.state.specs.declared.State.{State}
 use Rattle.state.proofs.after.Statement.{statement}
 use Rattle.state.proofs.after.Tie as tie
 
-more-requires : tie.Need-more-requires
-more-requires c κs = let s = c.before in (s.requires.0, subst OfUnit (sym c.Counts-of.ensures) (counts_few s.args.did))
+more-requires : tie.Need-more-tally-requires
+more-requires c κs = let s = c in (s.requires.0, subst OfUnit (sym c.counts_of.ensures) (counts_few s.args.did))
 
 returns : tie.Need-returns
 returns c =
-    let m = c.before in
-    let s = m.before.before in
+    let m = c in
+    let s = m in
     let state : Tally → State = λ t. record { frame = s.args.frame; tally = t; takes = s.args.s.takes + 1; blocks = s.args.s.blocks } in
-    ap state (m.more.ensures ∙ ap (plus s.args.s.tally) m.before.Counts-of.ensures)
+    ap state (m.more-tally.ensures ∙ ap (plus s.args.s.tally) m.counts_of.ensures)
 
-pub after-spec : {M : Type 1} → statement M
-after-spec = tie.close (tie.spec (λ c κs. search rules) more-requires (λ c. omega (arith, c.before.before.before.requires.1)) returns)
+pub after_spec : {M : Type 1} → statement M
+after_spec = tie.close (tie.spec
+    (λ c κs. search rules)
+    more-requires
+    (λ c. omega (arith, c.requires.1))
+    returns)

@@ -9,8 +9,8 @@ returns : tie.Need-returns
 unfolding plus
 returns c = refl
 
-pub more-spec : {M : Type 1} → statement M
-more-spec =
+pub more_spec : {M : Type 1} → statement M
+more_spec =
     tie.close
     (tie.spec
     (λ c. search rules)
@@ -18,5 +18,5 @@ more-spec =
     (λ c. search rules)
     (λ c. search rules)
     (λ c. search rules)
-    (λ c. let s = c.before.before.before.before.before.before.before.before.before.before.before.before in omega (arith, s.requires.0.in_blocks, s.requires.1.in_blocks))
+    (λ c. let s = c in omega (arith, s.requires.0.in_blocks, s.requires.1.in_blocks))
     returns)

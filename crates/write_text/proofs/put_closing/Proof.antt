@@ -8,32 +8,29 @@ use Rattle.write_text.specs.Outcomes.{closing}
 use Rattle.write_text.proofs.put_closing.Statement.{statement}
 use Rattle.write_text.proofs.put_closing.Tie as tie
 
-returns : tie.Need-returns
+returns : tie.Need-returns-then-complete
 unfolding closing
 returns c =
-    let z = c.before.before in
-    let i = z.before.before.before in
-    let y = i.before.before.before in
-    rw i.if1.true (y.put-number.ensures then z.put.ensures)
+    let z = c in
+    let i = z in
+    let y = i in
+    rw i.if-complete.true (y.put_number-a.ensures then z.put.ensures)
 
-returns-2 : tie.Need-returns-2
+returns-2 : tie.Need-returns-else-complete
 unfolding closing
 returns-2 c =
-    let z = c.before.before in
-    let i = z.before.before.before in
-    let y = i.before.before.before in
-    rw i.if1.false (y.put-number.ensures then z.put2.ensures)
+    let z = c in
+    let i = z in
+    let y = i in
+    rw i.if-complete.false (y.put_number-a.ensures then z.put-else-complete.ensures)
 
-pub put-closing-spec : {M : Type 1} → statement M
-put-closing-spec =
+pub put_closing_spec : {M : Type 1} → statement M
+put_closing_spec =
     tie.close
     (tie.spec
-    (λ c. search rules)
     (λ c κs. search rules)
-    (λ c. search rules)
-    (λ c κs. omega (arith, ap (λ t. length (yes_no t)) c.before.before.if1.true))
-    (λ c. search rules)
-    (λ c κs. omega (arith, ap (λ t. length (yes_no t)) c.before.before.if1.false))
+    (λ c κs. omega (arith, ap (λ t. length (yes_no t)) c.if-complete.true))
+    (λ c κs. omega (arith, ap (λ t. length (yes_no t)) c.if-complete.false))
     (λ c. search rules)
     returns
     (λ c. search rules)

@@ -9,17 +9,15 @@ use Rattle.write_text.proofs.put_refusal.Tie as tie
 returns : tie.Need-returns
 unfolding written_refusal
 returns c =
-    let z = c.before.before in
-    let y = z.before.before.before.before.before in
-    at_front (y.put-number.ensures then z.put.ensures) (omega (arith, decimal_most 20 y.before.before.before.before.args.number))
+    let z = c in
+    let y = z in
+    at_front (y.put_number-a.ensures then z.put.ensures) (omega (arith, decimal_most 20 y.args.number))
 
-pub put-refusal-spec : {M : Type 1} → statement M
-put-refusal-spec =
+pub put_refusal_spec : {M : Type 1} → statement M
+put_refusal_spec =
     tie.close
     (tie.spec
-    (λ c. search rules)
-    (λ c κs. omega (arith, decimal_most 20 c.before.before.before.args.number))
-    (λ c. search rules)
-    (λ c κs. omega (arith, decimal_most 20 c.before.before.before.before.before.before.before.before.args.number))
+    (λ c κs. omega (arith, decimal_most 20 c.args.number))
+    (λ c κs. omega (arith, decimal_most 20 c.args.number))
     (λ c. search rules)
     returns)

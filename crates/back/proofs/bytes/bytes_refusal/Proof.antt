@@ -8,8 +8,8 @@ returns : tie.Need-returns
 unfolding first_row one_of
 returns c = cc
 
-pub bytes-refusal-spec : {M : Type 1} → statement M
-bytes-refusal-spec =
+pub bytes_refusal_spec : {M : Type 1} → statement M
+bytes_refusal_spec =
     tie.close
     (tie.spec
     (λ c. search rules)

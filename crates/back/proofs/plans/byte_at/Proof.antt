@@ -4,8 +4,11 @@ use lib.ListN.{get_or-eq_default}
 use Rattle.back.proofs.plans.byte_at.Statement.{statement}
 use Rattle.back.proofs.plans.byte_at.Tie as tie
 
-returns-2 : tie.Need-returns-2
-returns-2 c = sym (get_or-eq_default c.before.args.bytes.now 0 c.if1.false)
+returns-2 : tie.Need-returns
+returns-2 c = sym (get_or-eq_default c.args.bytes.now 0 c.if-k-bytes.false)
 
-pub byte-at-spec : {M : Type 1} → statement M
-byte-at-spec = tie.close (tie.spec (λ c. search rules) (λ c. search rules) returns-2)
+pub byte_at_spec : {M : Type 1} → statement M
+byte_at_spec = tie.close (tie.spec
+    (λ c. search rules)
+    (λ c. search rules)
+    returns-2)

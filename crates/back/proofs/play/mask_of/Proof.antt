@@ -5,11 +5,11 @@ use Rattle.back.proofs.play.mask_of.Tie as tie
 
 returns : tie.Need-returns
 returns c =
-    let a = c.before.before.before.before.before.before.args in
+    let a = c.args in
     rw (mask_of_three a.plan a.s.degree a.s.first a.s.second a.s.third) (cc)
 
-pub mask-of-spec : {M : Type 1} → statement M
-mask-of-spec =
+pub mask_of_spec : {M : Type 1} → statement M
+mask_of_spec =
     tie.close
     (tie.spec
     (λ c κs. search rules)

@@ -6,25 +6,30 @@ use Rattle.back.specs.RefusalLaws.{of_unread, of_read, read_unbroken}
 use Rattle.back.proofs.project.project_block.Statement.{statement}
 use Rattle.back.proofs.project.project_block.Tie as tie
 
-returns : tie.Need-returns
+returns : tie.Need-returns-then-reading-ne0
 unfolding project_block_refusal block_answer_after
 returns c =
-    let d = c.before.before in
-    let a = d.before.before.before.before.args in
-    of_unread (λ r. plan_rows r a.plan.now (length a.out.now)) (λ r. projected r a.plan.now) a.out.now a.block.now d.read-record.result d.read-record.ensures c.if1.true
+    let d = c in
+    let a = d.args in
+    of_unread (λ r. plan_rows r a.plan.now (length a.out.now)) (λ r. projected r a.plan.now) a.out.now a.block.now d.read_record-reading.result d.read_record-reading.ensures c.if-reading-ne0.true
 
-project-unbroken-requires : tie.Need-project-unbroken-requires
+project-unbroken-requires : tie.Need-project_unbroken-requires
 project-unbroken-requires c κs =
-    let d = c.before.before.before in
-    read_unbroken d.before.before.before.before.args.block.now d.read-record.result d.read-record.ensures c.before.if1.false
+    let d = c in
+    read_unbroken d.args.block.now d.read_record-reading.result d.read_record-reading.ensures c.if-reading-ne0.false
 
-returns-2 : tie.Need-returns-2
+returns-2 : tie.Need-returns
 unfolding project_block_refusal block_answer_after
 returns-2 c =
-    let g = c.before.before in
-    let d = g.before.before.before.before in
-    let a = d.before.before.before.before.args in
-    of_read (λ r. plan_rows r a.plan.now (length a.out.now)) (λ r. projected r a.plan.now) a.out.now a.block.now d.read-record.result d.read-record.ensures g.before.before.if1.false g.project-unbroken.ensures
+    let g = c in
+    let d = g in
+    let a = d.args in
+    of_read (λ r. plan_rows r a.plan.now (length a.out.now)) (λ r. projected r a.plan.now) a.out.now a.block.now d.read_record-reading.result d.read_record-reading.ensures g.if-reading-ne0.false g.project_unbroken.ensures
 
-pub project-block-spec : {M : Type 1} → statement M
-project-block-spec = tie.close (tie.spec (λ c κs. search rules) returns project-unbroken-requires (λ c. search rules) returns-2)
+pub project_block_spec : {M : Type 1} → statement M
+project_block_spec = tie.close (tie.spec
+    (λ c κs. search rules)
+    returns
+    project-unbroken-requires
+    (λ c. search rules)
+    returns-2)

@@ -12,37 +12,37 @@ use Rattle.back.proofs.project.project_unbroken.Statement.{statement}
 use Rattle.back.proofs.project.project_unbroken.Tie as tie
 
 -- the output is n long
-long : (c : tie.Else1) → let s = c.before.before.before.before.before in length s.args.out.now ≡ s.args.«record».n
+long : (c : tie.Else-refused-ne0) → let s = c.before.before.before.before.before in length s.args.out.now ≡ s.args.«record».n
 long c =
-    let a = c.before.before.before.before.before.args in
-    (bytes_lengths a.«record» a.«record».n a.plan.now (length a.out.now) (sym c.before.bytes-refusal.ensures ∙ c.if1.false)).1
+    let a = c.args in
+    (bytes_lengths a.«record» a.«record».n a.plan.now (length a.out.now) (sym c.bytes_refusal-refused.ensures ∙ c.if-refused-ne0.false)).1
 
-returns : tie.Need-returns
+returns : tie.Need-returns-then-refused-ne0
 returns c =
-    let a = c.before.before.before.before.before.args in
-    answers_refused _ c.before.bytes-refusal.result (projected a.«record» a.plan.now) a.out.now c.before.bytes-refusal.ensures c.if1.true
+    let a = c.args in
+    answers_refused _ c.bytes_refusal-refused.result (projected a.«record» a.plan.now) a.out.now c.bytes_refusal-refused.ensures c.if-refused-ne0.true
 
-projected-requires : tie.Need-projected-requires
-projected-requires c κs = let s = c.before.before.before.before.before.before in few_decisions s.args.«record» s.requires
+projected-requires : tie.Need-projected-entries-requires
+projected-requires c κs = let s = c in few_decisions s.args.«record» s.requires
 
-write-front-requires : tie.Need-write-front-requires
+write-front-requires : tie.Need-write_front-requires
 write-front-requires c κs =
-    let e = c.before.before.before in
-    let s = e.before.before.before.before.before in
-    omega (arith, long e, few_decisions s.args.«record» s.requires)
+    let e = c in
+    let s = e in
+    omega (arith, long e.before.before.before, few_decisions s.args.«record» s.requires)
 
-returns-2 : tie.Need-returns-2
+returns-2 : tie.Need-returns
 unfolding states_of
 returns-2 c =
-    let w = c.before.before in
-    let p = w.before.before in
-    let e = p.before.before in
-    let a = e.before.before.before.before.before.args in
-    answers_accepted _ (projected a.«record» a.plan.now) a.out.now _ (sym e.before.bytes-refusal.ensures ∙ e.if1.false)
-    (w.write-front.ensures ∙ ap (λ (n : ℕ). take n p.projected.result) (long e) ∙ p.projected.ensures)
+    let w = c in
+    let p = w in
+    let e = p in
+    let a = e.args in
+    answers_accepted _ (projected a.«record» a.plan.now) a.out.now _ (sym e.bytes_refusal-refused.ensures ∙ e.if-refused-ne0.false)
+    (w.write_front.ensures ∙ ap (λ (n : ℕ). take n p.projected-entries.result) (long e.before.before.before.before.before.before) ∙ p.projected-entries.ensures)
 
-pub project-unbroken-spec : {M : Type 1} → statement M
-project-unbroken-spec =
+pub project_unbroken_spec : {M : Type 1} → statement M
+project_unbroken_spec =
     tie.close
     (tie.spec
     (λ c. search rules)

@@ -1,15 +1,15 @@
-use Rattle.std.proofs.Common.{◌≡◌, ◌-◌, ◌<◌, ◌≤◌, length, rules}
+use Rattle.std.proofs.Common.{◌≡◌, ◌-◌, length, rules}
 use Rattle.lists.proofs.fill.list.Statement.{statement}
 use Rattle.lists.proofs.fill.list.Tie as tie
 
-abbrev invariant-loop : tie.invariant-loop
+abbrev invariant-loop : tie.invariant-loop-turns
 invariant-loop line at end out₀ n₀ p₀ turns₀ out n p turns = length out ≡ length out₀
 
-abbrev decreases-loop : tie.decreases-loop
+abbrev decreases-loop : tie.decreases-loop-turns
 decreases-loop line at end out₀ n₀ p₀ turns₀ out n p turns = length line - turns
 
-pub list-spec : {M : Type 1} → statement M
-list-spec =
+pub list_spec : {M : Type 1} → statement M
+list_spec =
     tie.close
     (tie.spec
     invariant-loop

@@ -1,15 +1,15 @@
-use Rattle.std.proofs.Common.{◌≡◌, ◌-◌, ◌<◌, ◌≤◌, length, rules}
+use Rattle.std.proofs.Common.{◌≡◌, ◌-◌, length, rules}
 use Rattle.lists.proofs.fill.narrow.Statement.{statement}
 use Rattle.lists.proofs.fill.narrow.Tie as tie
 
-abbrev invariant-loop : tie.invariant-loop
+abbrev invariant-loop : tie.invariant-loop-i
 invariant-loop from count out₀ i₀ out i = length out ≡ length out₀
 
-abbrev decreases-loop : tie.decreases-loop
+abbrev decreases-loop : tie.decreases-loop-i
 decreases-loop from count out₀ i₀ out i = count - i
 
-pub narrow-spec : {M : Type 1} → statement M
-narrow-spec =
+pub narrow_spec : {M : Type 1} → statement M
+narrow_spec =
     tie.close
     (tie.spec
     invariant-loop

@@ -1,15 +1,15 @@
-use Rattle.std.proofs.Common.{◌≡◌, ◌-◌, ◌<◌, ◌≤◌, length, rules}
+use Rattle.std.proofs.Common.{◌≡◌, length, rules}
 use Rattle.lists.proofs.fill.repeat.Statement.{statement}
 use Rattle.lists.proofs.fill.repeat.Tie as tie
 
-abbrev invariant-loop : tie.invariant-loop
+abbrev invariant-loop : tie.invariant-loop-left
 invariant-loop out₀ from count b n₀ left₀ out n left = length out ≡ length out₀
 
-abbrev decreases-loop : tie.decreases-loop
+abbrev decreases-loop : tie.decreases-loop-left
 decreases-loop out₀ from count b n₀ left₀ out n left = left
 
-pub repeat-spec : {M : Type 1} → statement M
-repeat-spec =
+pub repeat_spec : {M : Type 1} → statement M
+repeat_spec =
     tie.close
     (tie.spec
     invariant-loop

@@ -1,15 +1,15 @@
-use Rattle.std.proofs.Common.{◌≡◌, ◌-◌, ◌<◌, ◌≤◌, length, rules}
+use Rattle.std.proofs.Common.{◌≡◌, ◌-◌, length, rules}
 use Rattle.lists.proofs.fill.weights_of.Statement.{statement}
 use Rattle.lists.proofs.fill.weights_of.Tie as tie
 
-abbrev invariant-loop : tie.invariant-loop
+abbrev invariant-loop : tie.invariant-loop-i
 invariant-loop from count out₀ i₀ out i = length out ≡ length out₀
 
-abbrev decreases-loop : tie.decreases-loop
+abbrev decreases-loop : tie.decreases-loop-i
 decreases-loop from count out₀ i₀ out i = count - i
 
-pub weights-of-spec : {M : Type 1} → statement M
-weights-of-spec =
+pub weights_of_spec : {M : Type 1} → statement M
+weights_of_spec =
     tie.close
     (tie.spec
     invariant-loop

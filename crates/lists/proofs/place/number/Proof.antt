@@ -1,15 +1,15 @@
-use Rattle.std.proofs.Common.{◌-◌, ◌<◌, ◌≤◌, length, rules}
+use Rattle.std.proofs.Common.{◌-◌, length, rules}
 use Rattle.lists.proofs.place.number.Statement.{statement}
 use Rattle.lists.proofs.place.number.Tie as tie
 
-abbrev invariant-loop : tie.invariant-loop
+abbrev invariant-loop : tie.invariant-loop-i
 invariant-loop line at value₀ i₀ value i = Unit {0}
 
-abbrev decreases-loop : tie.decreases-loop
+abbrev decreases-loop : tie.decreases-loop-i
 decreases-loop line at value₀ i₀ value i = length line - i
 
-pub number-spec : {M : Type 1} → statement M
-number-spec =
+pub number_spec : {M : Type 1} → statement M
+number_spec =
     tie.close
     (tie.spec
     invariant-loop

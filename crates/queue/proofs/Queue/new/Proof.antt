@@ -14,4 +14,5 @@ unfolding ring_from mem
 returns c = (refl, record { long = length-replicate {A = ℕ} 64 0; head = omega arith; apart = none; shown = λ k l. bit_none k })
 
 pub new_spec : {M : Type 1} → statement M
-new_spec = tie.close (tie.spec returns)
+new_spec = tie.close (tie.spec
+    returns)

@@ -1,12 +1,12 @@
 use mathlib.Core.Path.{◌≡◌, refl, sym, ap, ◌∙◌, subst}
 use mathlib.Core.List.{List, [], ◌∷◌, ◌++◌, append-nil, append_assoc}
-use Prim.Native.Nat.{ℕ, ◌+◌, ◌-◌, ◌%◌, ◌^◌, ◌<◌, ◌≤◌}
+use Prim.Native.Nat.{ℕ, ◌+◌, ◌-◌, ◌%◌, ◌^◌, ◌<◌}
 use native.Mathlib.Omega.{arith}
 use lib.Bits.{bit_and}
 use lib.Count.{count_trailing_zeros}
 use lib.ListN.{length, length-set, length-append}
 use borrow.Author.Rules.{rules}
-use Rattle.whole.specs.Words.{mem, bit}
+use Rattle.whole.specs.Words.{mem}
 use Rattle.whole.specs.Masks.{these, these_end, Turn, turn}
 use Rattle.whole.specs.Pigeon.{Apart, pigeon}
 use Rattle.queue.specs.Items.{items}
@@ -15,34 +15,34 @@ use Rattle.queue.proofs.Queue.push_all.Statement.{statement}
 use Rattle.queue.proofs.Queue.push_all.Tie as tie
 
 -- those who have joined, and those who are still to join
-abbrev invariant-loop : tie.invariant-loop
+abbrev invariant-loop : tie.invariant-loop-rest
 invariant-loop self new next₀ rest₀ next rest =
     (rest < 2 ^ 64) × (next.head ≡ self.head) × (length next.places ≡ 64) × (items next ++ these rest ≡ items self ++ these new)
 
-abbrev decreases-loop : tie.decreases-loop
+abbrev decreases-loop : tie.decreases-loop-rest
 decreases-loop self new next₀ rest₀ next rest = rest
 
-loop-holds : tie.Need-loop-init invariant-loop decreases-loop
+loop-holds : tie.Need-loop-rest-init invariant-loop decreases-loop
 loop-holds c = (search rules, refl, c.requires.0.long, refl)
 
-at : (t : tie.In-loop invariant-loop decreases-loop) → Turn t.before.loop.rest
-at t = turn t.before.loop.rest t.loop-test.true t.before.loop.invariant.0
+at : (t : tie.In-loop-rest invariant-loop decreases-loop) → Turn t.loop-rest.rest
+at t = turn t.loop-rest.rest t.loop-rest-test.true t.loop-rest.invariant.0
 
 -- there is room for one more
-room : (t : tie.In-loop invariant-loop decreases-loop) → t.before.loop.next.len < 64
+room : (t : tie.In-loop-rest invariant-loop decreases-loop) → t.loop-rest.next.len < 64
 room t =
-    let l = t.before.loop in
-    let s = t.before.before in
+    let l = t.loop-rest in
+    let s = t in
     let q = l.next in
     let all = pigeon 64 (joined_apart s.args.self s.args.new s.requires.0 s.requires.1) in
     omega (arith, all, ap length l.invariant.3, length-append (items q) (these l.rest), ring_length q.places q.head q.len, ap length (at t).parts)
 
-head : (t : tie.In-loop invariant-loop decreases-loop) → t.before.loop.next.head < 64
-head t = omega (arith, t.before.loop.invariant.1, t.before.before.requires.0.head)
+head : (t : tie.In-loop-rest invariant-loop decreases-loop) → t.loop-rest.next.head < 64
+head t = omega (arith, t.loop-rest.invariant.1, t.requires.0.head)
 
-loop-again : tie.Need-loop-preserved invariant-loop decreases-loop
+loop-again : tie.Need-loop-rest-preserved invariant-loop decreases-loop
 loop-again c =
-    let l = c.before.loop in
+    let l = c.loop-rest in
     let q = l.next in
     let d = count_trailing_zeros 64 l.rest in
     let m : List ℕ = these (bit_and l.rest (l.rest - 1)) in (
@@ -54,12 +54,12 @@ loop-again c =
 
 returns : tie.Need-returns invariant-loop decreases-loop
 returns c =
-    let m = c.before.before in
-    let l = m.loop in
-    let s = m.before in
+    let m = c in
+    let l = m.loop-rest in
+    let s = m in
     let q = s.args.self in
     let new = s.args.new in
-    let e : items l.next ≡ items q ++ these new = sym (append-nil (items l.next)) ∙ ap (λ (xs : List ℕ). items l.next ++ xs) (sym (these_end l.rest c.before.loop-test.false)) ∙ l.invariant.3 in (
+    let e : items l.next ≡ items q ++ these new = sym (append-nil (items l.next)) ∙ ap (λ (xs : List ℕ). items l.next ++ xs) (sym (these_end l.rest c.loop-rest-test.false)) ∙ l.invariant.3 in (
       e,
       record {
         long = l.invariant.2;
@@ -69,8 +69,8 @@ returns c =
       },
     )
 
-pub push-all-spec : {M : Type 1} → statement M
-push-all-spec =
+pub push_all_spec : {M : Type 1} → statement M
+push_all_spec =
     tie.close
     (tie.spec
     invariant-loop

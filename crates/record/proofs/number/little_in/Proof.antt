@@ -5,44 +5,44 @@ use Rattle.record.proofs.Bytes.{from_none, from_next, from_room}
 use Rattle.record.proofs.number.little_in.Statement.{statement}
 use Rattle.record.proofs.number.little_in.Tie as tie
 
-abbrev invariant-loop : tie.invariant-loop
+abbrev invariant-loop : tie.invariant-loop-k
 invariant-loop block at count v₀ k₀ v k = (k ≤ count) × (v ≡ from_little (take (count - k) (drop (at + k) block)))
 
-abbrev decreases-loop : tie.decreases-loop
+abbrev decreases-loop : tie.decreases-loop-k
 decreases-loop block at count v₀ k₀ v k = k
 
-loop-holds : tie.Need-loop-init invariant-loop decreases-loop
-loop-holds c = (omega arith, from_none c.before.args.block.now c.before.args.at c.before.args.count)
+loop-holds : tie.Need-loop-k-init invariant-loop decreases-loop
+loop-holds c = (omega arith, from_none c.args.block.now c.args.at c.args.count)
 
 -- what has been read has room for one byte more
-room : (c : tie.In-loop invariant-loop decreases-loop) → c.before.loop.v < 2 ^ 56
+room : (c : tie.In-loop-k invariant-loop decreases-loop) → c.loop-k.v < 2 ^ 56
 room c =
-    let l = c.before.loop in
-    let a = c.before.before.before.args in
-    let b : (i : ℕ) → get_or (drop (a.at + l.k) a.block.now) i 0 < 256 = λ i. rw get_or-drop (c.before.before.shared-slice-known.given (a.at + l.k + i)).fits in
+    let l = c.loop-k in
+    let a = c.args in
+    let b : (i : ℕ) → get_or (drop (a.at + l.k) a.block.now) i 0 < 256 = λ i. rw get_or-drop (c.shared_slice_known-1.given (a.at + l.k + i)).fits in
     rw l.invariant.1 (from_room (a.count - l.k) (drop (a.at + l.k) a.block.now) b (omega arith))
 
-mul-v : tie.Need-overflow-mul-v invariant-loop decreases-loop
+mul-v : tie.Need-overflow_mul-v invariant-loop decreases-loop
 mul-v c = omega (arith, room c)
 
-add-v : tie.Need-overflow-add-v invariant-loop decreases-loop
-add-v c = omega (arith, room c.before.before, c.wide.ensures, c.before.shared-slice-known2.given (c.before.before.before.before.before.args.at + (c.before.before.before.loop.k - 1)))
+add-v : tie.Need-overflow_add-v invariant-loop decreases-loop
+add-v c = omega (arith, room c.before.before, c.wide.ensures, c.shared_slice_known-in-loop-k-1.given (c.args.at + (c.loop-k.k - 1)))
 
-loop-again : tie.Need-loop-preserved invariant-loop decreases-loop
+loop-again : tie.Need-loop-k-preserved invariant-loop decreases-loop
 loop-again c =
-    let l = c.before.before.before.loop in
-    let a = c.before.before.before.before.before.args in
+    let l = c.loop-k in
+    let a = c.args in
     (omega arith, rw c.wide.ensures (from_next a.block.now a.at l.k a.count l.v (omega arith) l.invariant.0 (omega arith) l.invariant.1))
 
 returns : tie.Need-returns invariant-loop decreases-loop
 returns c =
-    let l = c.before.loop in
-    let a = c.before.before.before.args in
+    let l = c.loop-k in
+    let a = c.args in
     let e : l.k ≡ 0 = omega arith in
     l.invariant.1 ∙ rw (e, add-zero, sub-zero)
 
-pub little-in-spec : {M : Type 1} → statement M
-little-in-spec =
+pub little_in_spec : {M : Type 1} → statement M
+little_in_spec =
     tie.close
     (tie.spec
     invariant-loop

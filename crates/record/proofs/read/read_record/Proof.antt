@@ -10,29 +10,29 @@ use Rattle.record.proofs.Rows.{row_next, reading_is}
 use Rattle.record.proofs.read.read_record.Statement.{statement}
 use Rattle.record.proofs.read.read_record.Tie as tie
 
-returns : tie.Need-returns
+returns : tie.Need-returns-then-block-ne512
 unfolding read_refusal
-returns c = reading_is _ _ 9 c.before.no_record.result c.reading-of.ensures (row_hit _ _ _ (eqb_other _ _ c.before.before.if1.true)) refl
+returns c = reading_is _ _ 9 c.no_record.result c.reading_of.ensures (row_hit _ _ _ (eqb_other _ _ c.if-block-ne512.true)) refl
 
-returns-2 : tie.Need-returns-2
+returns-2 : tie.Need-returns
 unfolding read_refusal
 returns-2 c =
-    let right = c.before.before in
-    let edition = right.before.before.before in
-    let zeros = edition.before.before in
-    let made = zeros.before in
-    let b = made.before.before.before.args.block.now in
-    let k = c.before.row3.result in
-    let fine = ap₂ (λ (x y : Bool). x && y) zeros.zeros-in.ensures (ap not (edition.before.is-broken.ensures ∙ ap broken made.record-in.ensures) ∙ not-not (sound (record_in b))) in
-    reading_is b _ k made.record-in.result c.reading-of2.ensures
-    (row_skip 9 _ _ (eqb_same _ _ made.before.if1.false)
-    (row_next 10 _ _ _ _ _ c.before.row3.ensures (ap not right.is_right.ensures)
-    (row_next 11 _ _ _ _ _ right.before.row2.ensures (ap not edition.is-edition.ensures)
-    (row_next 12 _ _ _ _ _ right.before.before.row.ensures (ap not fine) row_none))))
-    (ap (λ (r : Record). unless k r no_record) made.record-in.ensures)
+    let right = c in
+    let edition = right in
+    let zeros = edition in
+    let made = zeros in
+    let b = made.args.block.now in
+    let k = c.row-ten.result in
+    let fine = ap₂ (λ (x y : Bool). x && y) zeros.zeros_in.ensures (ap not (edition.is_broken.ensures ∙ ap broken made.record_in-record.ensures) ∙ not-not (sound (record_in b))) in
+    reading_is b _ k made.record_in-record.result c.reading_of-2.ensures
+    (row_skip 9 _ _ (eqb_same _ _ made.if-block-ne512.false)
+    (row_next 10 _ _ _ _ _ c.row-ten.ensures (ap not right.is_right.ensures)
+    (row_next 11 _ _ _ _ _ right.row-eleven.ensures (ap not edition.is_edition.ensures)
+    (row_next 12 _ _ _ _ _ right.row.ensures (ap not fine) row_none))))
+    (ap (λ (r : Record). unless k r no_record) made.record_in-record.ensures)
 
-pub read-record-spec : {M : Type 1} → statement M
-read-record-spec =
+pub read_record_spec : {M : Type 1} → statement M
+read_record_spec =
     tie.close
     (tie.spec
     (λ c κs. search rules)

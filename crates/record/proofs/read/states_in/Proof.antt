@@ -3,19 +3,19 @@ use Rattle.whole.specs.Stores.{fill_next}
 use Rattle.record.proofs.read.states_in.Statement.{statement}
 use Rattle.record.proofs.read.states_in.Tie as tie
 
-abbrev invariant-loop : tie.invariant-loop
+abbrev invariant-loop : tie.invariant-loop-k
 invariant-loop block states₀ k₀ states k = (k ≤ 64) × (length states ≡ 64) × (take k states ≡ take k (drop 12 block))
 
-abbrev decreases-loop : tie.decreases-loop
+abbrev decreases-loop : tie.decreases-loop-k
 decreases-loop block states₀ k₀ states k = 64 - k
 
-loop-holds : tie.Need-loop-init invariant-loop decreases-loop
+loop-holds : tie.Need-loop-k-init invariant-loop decreases-loop
 loop-holds c = (omega arith, refl, refl)
 
-loop-again : tie.Need-loop-preserved invariant-loop decreases-loop
+loop-again : tie.Need-loop-k-preserved invariant-loop decreases-loop
 loop-again c =
-    let l = c.before.before.loop in
-    let b = c.before.before.before.args.block.now in
+    let l = c.loop-k in
+    let b = c.args.block.now in
     let f : l.k < length (drop 12 b) = rw length-drop (omega arith) in (
       omega arith,
       length-set l.states l.k (get_or b (12 + l.k) 0) ∙ l.invariant.1,
@@ -24,13 +24,13 @@ loop-again c =
 
 returns : tie.Need-returns invariant-loop decreases-loop
 returns c =
-    let l = c.before.loop in
-    let b = c.before.before.args.block.now in
+    let l = c.loop-k in
+    let b = c.args.block.now in
     let e : l.k ≡ 64 = omega arith in
     sym (take_all l.k l.states (omega arith)) ∙ l.invariant.2 ∙ ap (λ (n : ℕ). take n (drop 12 b)) e
 
-pub states-in-spec : {M : Type 1} → statement M
-states-in-spec =
+pub states_in_spec : {M : Type 1} → statement M
+states_in_spec =
     tie.close
     (tie.spec
     invariant-loop

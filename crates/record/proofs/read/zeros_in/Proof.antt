@@ -6,7 +6,10 @@ use Rattle.record.proofs.read.zeros_in.Tie as tie
 
 returns : tie.Need-returns
 unfolding zeros_in all
-returns c = rw c.zero-bytes.ensures
+returns c = rw c.zero_bytes.ensures
 
-pub zeros-in-spec : {M : Type 1} → statement M
-zeros-in-spec = tie.close (tie.spec (λ c. search rules) (λ c κs. search rules) returns)
+pub zeros_in_spec : {M : Type 1} → statement M
+zeros_in_spec = tie.close (tie.spec
+    (λ c. search rules)
+    (λ c κs. search rules)
+    returns)

@@ -5,10 +5,10 @@ use Rattle.record.proofs.sums.is_right.Tie as tie
 
 returns : tie.Need-returns
 unfolding check_right
-returns c = rw (c.before.before.before.little-in.ensures, c.before.before.little-in2.ensures, c.before.before.before.before.sums-of.ensures.0, c.before.before.before.before.sums-of.ensures.1)
+returns c = rw (c.little_in-first.ensures, c.little_in-second.ensures, c.sums_of-sums.ensures.0, c.sums_of-sums.ensures.1)
 
-pub is-right-spec : {M : Type 1} → statement M
-is-right-spec =
+pub is_right_spec : {M : Type 1} → statement M
+is_right_spec =
     tie.close
     (tie.spec
     (λ c κs. search rules)

@@ -5,13 +5,13 @@ use Rattle.record.proofs.sums.put_sums.Tie as tie
 
 returns : tie.Need-returns
 returns c =
-    let first = c.before.before.before.before.before.before.before in
-    let made = first.before.before.before in
-    let s = made.before.before.before in
-    put_check s.args.block.now _ _ _ _ s.requires made.sums-of.ensures.0 made.sums-of.ensures.1 first.put-little.ensures c.before.before.put-little2.ensures
+    let first = c in
+    let made = first in
+    let s = made in
+    put_check s.args.block.now _ _ _ _ s.requires made.sums_of-sums.ensures.0 made.sums_of-sums.ensures.1 first.put_little.ensures c.put_little-2.ensures
 
-pub put-sums-spec : {M : Type 1} → statement M
-put-sums-spec =
+pub put_sums_spec : {M : Type 1} → statement M
+put_sums_spec =
     tie.close
     (tie.spec
     (λ c κs. search rules)

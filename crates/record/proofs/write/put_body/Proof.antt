@@ -15,19 +15,19 @@ small c = search rules
 
 returns : tie.Need-returns
 returns c =
-    let zeros = c.before.before in
-    let steps = zeros.before.before.before.before in
-    let states = steps.before.before.before.before in
-    let little = states.before.before.before.before in
-    let made = little.before in
-    let head = made.before.before.before.before.before in
-    let s = head.before.before.before in
+    let zeros = c in
+    let steps = zeros in
+    let states = steps in
+    let little = states in
+    let made = little in
+    let head = made in
+    let s = head in
     let r = s.args.r in
-    put_all r (held s) s.args.block.now _ _ _ _ _ _ (made.to-twos.ensures ∙ ap twos (rd (small s)))
-    head.put-head.ensures little.put-little.ensures states.put-states.ensures steps.put-steps.ensures zeros.put-zeros.ensures
+    put_all r (held s.before.before.before.before.before.before.before.before.before.before.before.before.before.before.before.before.before.before.before.before.before.before.before) s.args.block.now _ _ _ _ _ _ (made.to_twos.ensures ∙ ap twos (rd (small s.before.before.before.before.before.before.before.before.before.before.before.before.before.before.before.before.before.before.before.before.before.before.before)))
+    head.put_head.ensures little.put_little.ensures states.put_states.ensures steps.put_steps.ensures zeros.put_zeros.ensures
 
-pub put-body-spec : {M : Type 1} → statement M
-put-body-spec =
+pub put_body_spec : {M : Type 1} → statement M
+put_body_spec =
     tie.close
     (tie.spec
     (λ c κs. search rules)

@@ -12,10 +12,14 @@ held c = record { states = search rules; steps = search (rules, length_mapped) }
 returns : tie.Need-returns
 unfolding block_of
 returns c =
-    let b = c.before.before.before.before.before in
-    let s = b.before.before.before.before in
-    c.before.before.put-sums.ensures ∙ ap sealed (ap (λ (l : List ℕ). take 508 l) b.before.put-body.ensures ∙ take_body s.args.«record» (held s) s.args.block.now (search rules))
+    let b = c in
+    let s = b in
+    c.put_sums.ensures ∙ ap sealed (ap (λ (l : List ℕ). take 508 l) b.put_body.ensures ∙ take_body s.args.«record» (held s.before.before.before.before.before.before.before.before.before) s.args.block.now (search rules))
 
-pub put-record-spec : {M : Type 1} → statement M
-put-record-spec =
-    tie.close (tie.spec (λ c κs. search rules) (λ c κs. search rules) (λ c. search rules) returns)
+pub put_record_spec : {M : Type 1} → statement M
+put_record_spec =
+    tie.close (tie.spec
+    (λ c κs. search rules)
+    (λ c κs. search rules)
+    (λ c. search rules)
+    returns)

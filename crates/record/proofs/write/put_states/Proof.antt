@@ -4,19 +4,19 @@ use Rattle.record.proofs.Stores.{store_next, store_over}
 use Rattle.record.proofs.write.put_states.Statement.{statement}
 use Rattle.record.proofs.write.put_states.Tie as tie
 
-abbrev invariant-loop : tie.invariant-loop
+abbrev invariant-loop : tie.invariant-loop-k
 invariant-loop block₀ r k₀ block k = (k ≤ 64) × (length block ≡ length block₀) × (sets block (12 + k) (drop k r.states) ≡ sets block₀ 12 r.states)
 
-abbrev decreases-loop : tie.decreases-loop
+abbrev decreases-loop : tie.decreases-loop-k
 decreases-loop block₀ r k₀ block k = 64 - k
 
-loop-holds : tie.Need-loop-init invariant-loop decreases-loop
+loop-holds : tie.Need-loop-k-init invariant-loop decreases-loop
 loop-holds c = (omega arith, refl, refl)
 
-loop-again : tie.Need-loop-preserved invariant-loop decreases-loop
+loop-again : tie.Need-loop-k-preserved invariant-loop decreases-loop
 loop-again c =
-    let l = c.before.before.loop in
-    let ss = c.before.before.before.args.t2.states in
+    let l = c.loop-k in
+    let ss = c.args.r.states in
     let n : length ss ≡ 64 = search rules in (
       omega arith,
       length-set l.block (12 + l.k) (get_or ss l.k 0) ∙ l.invariant.1,
@@ -25,13 +25,13 @@ loop-again c =
 
 returns : tie.Need-returns invariant-loop decreases-loop
 returns c =
-    let l = c.before.loop in
-    let ss = c.before.before.args.t2.states in
+    let l = c.loop-k in
+    let ss = c.args.r.states in
     let n : length ss ≡ 64 = search rules in
     sym (store_over l.block 12 l.k ss (omega arith)) ∙ l.invariant.2
 
-pub put-states-spec : {M : Type 1} → statement M
-put-states-spec =
+pub put_states_spec : {M : Type 1} → statement M
+put_states_spec =
     tie.close
     (tie.spec
     invariant-loop

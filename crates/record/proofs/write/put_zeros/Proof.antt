@@ -8,18 +8,18 @@ use Rattle.record.proofs.write.put_zeros.Tie as tie
 abbrev zeros : List ℕ
 zeros = replicate 48 0
 
-abbrev invariant-loop : tie.invariant-loop
+abbrev invariant-loop : tie.invariant-loop-k
 invariant-loop block₀ k₀ block k = (k ≤ 48) × (length block ≡ length block₀) × (sets block (460 + k) (drop k zeros) ≡ sets block₀ 460 zeros)
 
-abbrev decreases-loop : tie.decreases-loop
+abbrev decreases-loop : tie.decreases-loop-k
 decreases-loop block₀ k₀ block k = 48 - k
 
-loop-holds : tie.Need-loop-init invariant-loop decreases-loop
+loop-holds : tie.Need-loop-k-init invariant-loop decreases-loop
 loop-holds c = (omega arith, refl, refl)
 
-loop-again : tie.Need-loop-preserved invariant-loop decreases-loop
+loop-again : tie.Need-loop-k-preserved invariant-loop decreases-loop
 loop-again c =
-    let l = c.before.loop in
+    let l = c.loop-k in
     let z : get_or zeros l.k 0 ≡ 0 = get_or-replicate 48 l.k 0 0 (omega arith) in (
       omega arith,
       length-set l.block (460 + l.k) 0 ∙ l.invariant.1,
@@ -28,11 +28,11 @@ loop-again c =
 
 returns : tie.Need-returns invariant-loop decreases-loop
 returns c =
-    let l = c.before.loop in
+    let l = c.loop-k in
     sym (store_over l.block 460 l.k zeros (omega arith)) ∙ l.invariant.2
 
-pub put-zeros-spec : {M : Type 1} → statement M
-put-zeros-spec =
+pub put_zeros_spec : {M : Type 1} → statement M
+put_zeros_spec =
     tie.close
     (tie.spec
     invariant-loop

@@ -8,7 +8,9 @@ use Rattle.state.proofs.steps.no_steps.Tie as tie
 
 returns : tie.Need-returns
 unfolding hold_all
-returns c = record { list = ap (λ (x : Step). replicate 64 x) c.no_step.ensures; count = refl }
+returns c = record { list = ap (λ (x : Step). replicate 64 x) c.no_step-none.ensures; count = refl }
 
-pub no-steps-spec : {M : Type 1} → statement M
-no-steps-spec = tie.close (tie.spec (λ c κs. search rules) returns)
+pub no_steps_spec : {M : Type 1} → statement M
+no_steps_spec = tie.close (tie.spec
+    (λ c κs. search rules)
+    returns)
