@@ -13,9 +13,13 @@ whole r x y u = record { answer = 0; «record» = x; counts = y; takes = r.state
 
 returns : tie.Need-returns
 returns c =
-    let k = c.before in
-    let ended = k.before.before.before.args.ended in
-    ap (whole ended _ _) c.units.ensures ∙ ap₂ (λ (x : Record) (y : Counts). whole ended x y (ended.state.takes + ended.state.blocks)) k.before.record_of.ensures k.Counts-of.ensures
+    let k = c in
+    let ended = k.args.ended in
+    ap (whole ended _ _) c.units-units.ensures ∙ ap₂ (λ (x : Record) (y : Counts). whole ended x y (ended.state.takes + ended.state.blocks)) k.record_of-record.ensures k.counts_of-counts.ensures
 
-pub report-spec : {M : Type 1} → statement M
-report-spec = tie.close (tie.spec (λ c κs. search rules) (λ c κs. search rules) (λ c κs. search rules) returns)
+pub report_spec : {M : Type 1} → statement M
+report_spec = tie.close (tie.spec
+    (λ c κs. search rules)
+    (λ c κs. search rules)
+    (λ c κs. search rules)
+    returns)
