@@ -9,8 +9,8 @@ use Rattle.rules.specs.Call.{reduction, block_after, reading, block_plan_after, 
 use Rattle.rules.specs.declared.Reading.{Reading}
 use Rattle.rules.specs.declared.Reduction.{Reduction}
 use Rattle.demand_laws.specs.Demands.{Values, FullPlan, CostsExactly, NeverCostlier, reduction_for}
-use Rattle.run_record_laws.specs.ByCalls.{by_calls}
-use Rattle.run_record_laws.specs.ByBlock.{by_block}
+use Rattle.run_record_laws.proofs.ByCalls.{by_calls}
+use Rattle.run_record_laws.proofs.ByBlock.{by_block}
 use Rattle.record.specs.Promises.{Writes, Reads}
 use Rattle.back.specs.Calls.{GrownBack, Projected, GrownBackBlock, ProjectedBlock}
 use Rattle.reduce.specs.Gives.{Gives}

@@ -22,16 +22,18 @@ use Rattle.cost_laws.specs.Found.{found_least}
 use Rattle.cost_laws.proofs.BlockPlan.{found_plan}
 use Rattle.objective_laws.specs.FixLaws.{set_at, reduced_plan, fix_cost}
 use Rattle.objective_laws.proofs.Theorems.{graph_cost, start_cost}
-use Rattle.sound_laws.specs.SoundRun.{run_sound, begin_sound}
+use Rattle.sound_laws.specs.SoundRun.{begin_sound}
+use Rattle.sound_laws.proofs.SoundRun.{run_sound}
 use Rattle.sound_laws.specs.SoundStart.{start_stands}
-use Rattle.size_laws.specs.RunWithin.{run_within}
-use Rattle.size_laws.specs.Sizes.{moebius_size}
-use Rattle.size_laws.specs.SumSizes.{delta_three, tee_three, gains_three, first_pass, second_pass, low_size, high_size, upper_size, lower_size, taken_size, inner_size, gains_block}
+use Rattle.size_laws.proofs.RunWithin.{run_within}
+use Rattle.size_laws.proofs.PassSizes.{moebius_size}
+use Rattle.size_laws.specs.SumSizes.{delta_three, tee_three, gains_three, low_size, high_size, upper_size, lower_size, taken_size, inner_size, gains_block}
+use Rattle.size_laws.proofs.PassSizes.{first_pass, second_pass}
 use Rattle.run_laws.specs.DueLaws.{complete_over, ended_units, ended_cut}
-use Rattle.run_laws.specs.RunEnds.{ended_few, ended_complete}
-use Rattle.run_laws.specs.InOrderLaws.{run_in_order, in_order_room}
+use Rattle.run_laws.proofs.RunEnds.{ended_few, ended_complete}
+use Rattle.run_laws.proofs.InOrderLaws.{run_in_order, in_order_room}
 use Rattle.run_laws.specs.FuelLaws.{graph_turns}
-use Rattle.run_laws.specs.WaitingLaws.{never_inactive}
+use Rattle.run_laws.proofs.WaitingLaws.{never_inactive}
 use Rattle.demand_laws.specs.Demands.{run_of, SizeRule, SumBounds, Units, Built, Updates, Reduction-of, Reductions, RunSound}
 
 -- ---- of every objective that is not refused

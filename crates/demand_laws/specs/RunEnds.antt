@@ -18,7 +18,8 @@ use Rattle.accepted_laws.specs.Accept.{Fit}
 use Rattle.cost_laws.specs.Stands.{Fine, marked, marked_other}
 use Rattle.sound_laws.specs.Sound.{Steps, decisions}
 use Rattle.run_laws.specs.StepLaws.{steps_alive}
-use Rattle.sound_laws.specs.SoundStart.{states_from, start_stands, ended_sound, ended_n}
+use Rattle.sound_laws.specs.SoundStart.{states_from, start_stands}
+use Rattle.sound_laws.proofs.SoundEnded.{ended_sound, ended_n}
 
 -- ---- steps and states
 -- what is fixed is no step's decision

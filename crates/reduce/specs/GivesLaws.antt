@@ -13,10 +13,10 @@ use Rattle.rules.specs.Refuse.{reduce_refusal}
 use Rattle.rules.specs.Call.{unless, refused, reported, reduction, linear_after, edges_after}
 use Rattle.rules.specs.declared.Reduction.{Reduction}
 use Rattle.accepted_laws.specs.Accept.{Fit}
-use Rattle.sound_laws.specs.SoundStart.{ended_n}
-use Rattle.run_laws.specs.RunEnds.{ended_few}
+use Rattle.sound_laws.proofs.SoundEnded.{ended_n}
+use Rattle.run_laws.proofs.RunEnds.{ended_few}
 use Rattle.run_laws.specs.InOrder.{Room}
-use Rattle.run_laws.specs.InOrderLaws.{ended_room}
+use Rattle.run_laws.proofs.InOrderLaws.{ended_room}
 use Rattle.outputs.specs.Out.{rest, active_of, Places, linear_at, edge_at}
 use Rattle.outputs.specs.declared.Remaining.{Remaining}
 use Rattle.outputs.specs.OutLaws.{linear_of_lem, edges_of}

@@ -1,5 +1,6 @@
 // The public call: from the caller's lists to the reduced objective, the record and the counts.
 #![tactic(auto)]
+
 ghost use Rattle.std.specs.Prelude.{◌≡◌, ◌+◌, ◌<◌, ◌≤◌, length};
 ghost use Rattle.rules.specs.Objective.{objective};
 ghost use Rattle.rules.specs.Outcome.{outcome};

@@ -7,8 +7,9 @@ use Rattle.rules.specs.Run.{ended}
 use Rattle.rules.specs.Outcome.{outcome_of, outcome}
 use Rattle.rules.specs.Refuse.{reduce_refusal}
 use Rattle.accepted_laws.specs.Accept.{Fit, accept}
-use Rattle.sound_laws.specs.SoundStart.{states_from, ended_n}
-use Rattle.run_laws.specs.InOrderLaws.{ended_room}
+use Rattle.sound_laws.specs.SoundStart.{states_from}
+use Rattle.sound_laws.proofs.SoundEnded.{ended_n}
+use Rattle.run_laws.proofs.InOrderLaws.{ended_room}
 use Rattle.demand_laws.specs.RunEnds.{end_steps, end_fine, end_taken}
 use Rattle.run_record_laws.specs.RunRecord.{steps_narrow}
 use Rattle.write_text.specs.OutcomeLaws.{Reported, outcome_reported}

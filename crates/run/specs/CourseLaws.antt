@@ -27,7 +27,7 @@ use Rattle.cost_laws.specs.Stands.{Fine}
 use Rattle.sound_laws.specs.SoundStart.{start_stands}
 use Rattle.run_laws.specs.DueLaws.{run_over, run_turn, run_cut}
 use Rattle.run_laws.specs.InOrder.{InOrder, Room}
-use Rattle.run_laws.specs.InOrderLaws.{begin_in_order, next_in_order, in_order_room, in_order_within}
+use Rattle.run_laws.proofs.InOrderLaws.{begin_in_order, next_in_order, in_order_room, in_order_within}
 use Rattle.run_laws.specs.QueueLaws.{actives_apart}
 use Rattle.run_laws.specs.RemainingLaws.{remaining_count, to_actives}
 use Rattle.graph.specs.Held.{held}

@@ -1,5 +1,6 @@
 // The run: what is due is done, one unit each, until nothing is due or no unit is left.
 #![tactic(auto)]
+
 ghost use Rattle.std.specs.Prelude.{◌≡◌, [], ◌+◌, ◌≤◌};
 ghost use Rattle.rules.specs.Counts.{nothing_counted};
 ghost use Rattle.rules.specs.Run as rule;

@@ -1,4 +1,4 @@
--- What holds of every state of a run: the statements. Their laws stand in InOrderLaws.
+-- What holds of every state of a run: the statements. Their laws stand in proofs/InOrderLaws.antt.
 -- Assumes nothing.
 use Rattle.std.specs.Prelude.{◌≡◌, ◌+◌, ◌*◌, ◌≤◌, length}
 use Rattle.whole.specs.Pigeon.{Apart}

@@ -2,7 +2,6 @@ pub mod DueLaws
 pub mod QueueLaws
 pub mod StepLaws
 pub mod InOrder
-pub mod InOrderLaws
 pub mod RunEnds
 pub mod FuelLaws
 pub mod RemainingLaws

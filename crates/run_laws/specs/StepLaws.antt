@@ -12,7 +12,7 @@ use Rattle.rules.specs.Eliminate.{Step}
 use Rattle.rules.specs.SmallBlock.{block_steps}
 use Rattle.cost_laws.specs.Stands.{Alive}
 use Rattle.sound_laws.specs.Sound.{Steps, decisions}
-use Rattle.sound_laws.specs.SoundReductions.{block_decisions}
+use Rattle.sound_laws.proofs.SoundReductions.{block_decisions}
 
 -- what has been eliminated is not active
 gone_state : (ss : List ℕ) (i : ℕ) → eqb (get_or (set ss i 3) i 0) 2 ≡ false

@@ -1,2 +1,2 @@
-// The run's own laws: what is due, units, the queue, the steps, the counts, and that every run ends. All in specs/.
+// The run's own laws: what is due, units, the queue, the steps, the counts, and that every run ends. In specs/ and proofs/.
 #![tactic(auto)]

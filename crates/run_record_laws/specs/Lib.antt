@@ -1,4 +1,3 @@
 pub mod HeldSteps
 pub mod RunRecord
 pub mod ByCalls
-pub mod ByBlock

@@ -2,4 +2,3 @@ pub mod Values
 pub mod ValueLaws
 pub mod Sizes
 pub mod SumSizes
-pub mod RunWithin

@@ -8,7 +8,7 @@ use Rattle.whole.specs.Parts.{∣◌∣}
 use Rattle.whole.specs.Fits.{fit}
 use Rattle.whole.specs.Ints.{ints}
 use Rattle.whole.specs.Cmp.{below0_abs, above0_abs}
-use Rattle.rules.specs.DegreeThree.{pass, moebius}
+use Rattle.rules.specs.DegreeThree.{pass}
 use Rattle.rules.specs.DominantEdge.{negatives, positives}
 use Rattle.accepted_laws.specs.Small.{Small, small_tail}
 
@@ -103,7 +103,3 @@ pass_size {b} k t h m = go (bit m k)
     go : (c : Bool) → ∣ cond c (t m -ℤ t (m - 2 ^ k)) (t m) ∣ ≤ b + b
     go true = sub_size (t m) (t (m - 2 ^ k)) (h m) (h (m - 2 ^ k))
     go false = omega (arith, h m)
-
-pub moebius_size : {b : ℕ} (t : ℕ → ℤ) → ((m : ℕ) → ∣ t m ∣ ≤ b) → (m : ℕ) → ∣ moebius t m ∣ ≤ 8 * b
-unfolding moebius
-moebius_size t h m = omega (arith, pass_size 2 (pass 1 (pass 0 t)) (pass_size 1 (pass 0 t) (pass_size 0 t h)) m)

@@ -11,13 +11,12 @@ use Rattle.whole.specs.Cmp.{below0_abs}
 use Rattle.whole.specs.Pigeon.{pigeon}
 use Rattle.rules.specs.Graph.{Graph, lin, edge, neighbours, degree, row}
 use Rattle.rules.specs.Eliminate.{delta, tee}
-use Rattle.rules.specs.DegreeThree.{pass, moebius}
 use Rattle.rules.specs.DominantEdge.{negatives, positives, lo, hi, positive, upper, lower}
 use Rattle.rules.specs.SmallBlock.{boundary, inner, best_mask, block_table}
 use Rattle.rules.specs.Size.{Within}
 use Rattle.accepted_laws.specs.Small.{Small, small_map, small_tab}
 use Rattle.cost_laws.specs.Growth.{neighbours_apart}
-use Rattle.size_laws.specs.Sizes.{add_size, less_size, more_size, part_size, when_size, chosen_size, delta_size, lo_size, hi_size, TableSums, table_size, pass_size, moebius_size}
+use Rattle.size_laws.specs.Sizes.{add_size, less_size, more_size, part_size, when_size, chosen_size, delta_size, lo_size, hi_size, TableSums, table_size}
 
 module _ (g : Graph) (w : Within g) where
   -- i's edges, to whatever decisions
@@ -47,16 +46,6 @@ module _ (g : Graph) (w : Within g) where
     -- 14·2^40 for what a neighbour gains, 28·2^40 for what their edge gains
     pub gains_three : TableSums 7696581394432 (tee g i)
     gains_three = table_size (tee g i) tee_three
-
-    -- of the Möbius transform: 14·2^40 after the first pass, 28·2^40 after the second, 56·2^40 at the end
-    pub first_pass : (m : ℕ) → ∣ pass 0 (tee g i) m ∣ ≤ 15393162788864
-    first_pass = pass_size 0 (tee g i) tee_three
-
-    pub second_pass : (m : ℕ) → ∣ pass 1 (pass 0 (tee g i)) m ∣ ≤ 30786325577728
-    second_pass = pass_size 1 (pass 0 (tee g i)) first_pass
-
-    pub entries_three : Small 61572651155456 (tab (moebius (tee g i)) 8)
-    entries_three = small_tab (moebius (tee g i)) 8 (moebius_size (tee g i) tee_three)
 
   -- ---- the dominant neighbour, at most 64 decisions
   module _ (short : g.n ≤ 64) where

@@ -1,10 +1,9 @@
 -- The relation of a reduction: from a graph, by steps of growing back, to the graph that is left. It composes, so it holds of a whole run.
 -- Assumes nothing.
 use Rattle.std.specs.Prelude.{◌≡◌, refl, Bool, true, cond, List, [], ◌∷◌, ◌++◌, map, ℕ, ◌<◌, ◌≤◌, ◌^◌, eqb, length, set, ◌≤ℤ◌}
-use Rattle.std.proofs.Common.{ap, ap₂, ◌∙◌}
+use Rattle.std.proofs.Common.{ap, ap₂}
 use Rattle.std.specs.Int.Signed.{≤ℤ_refl}
 use Rattle.whole.specs.Words.{mem, bit}
-use Rattle.whole.specs.Cmp.{≤ℤ_trans}
 use Rattle.rules.specs.Graph.{Graph}
 use Rattle.rules.specs.Eliminate.{Step}
 use Rattle.rules.specs.Record.{ascending}
@@ -12,7 +11,6 @@ use Rattle.cost_laws.specs.CostLaws.{cost}
 use Rattle.cost_laws.specs.BlockCost.{mask_ext}
 use Rattle.cost_laws.specs.BlockSteps.{played_back}
 use Rattle.cost_laws.specs.Stands.{Fine, Alive, Stands, stands_here, marked}
-use Rattle.cost_laws.specs.BlockCost.{cost_ext}
 
 -- a step taken among n decisions in the states ss: its decision is active, and each of its neighbours still is once the decision has left
 pub record StepTaken (n : ℕ) (ss : List ℕ) (s : Step) : Type 0 where
@@ -67,11 +65,3 @@ played_append (s ∷ a) b x k =
     let rest : (j : ℕ) → played_back (a ++ b) x j ≡ played_back a (played_back b x) j = played_append a b x in
     ap₂ (λ (m : ℕ) (v : Bool). cond (eqb k s.decision) (bit s.choices m) v)
     (mask_ext (played_back (a ++ b) x) (played_back a (played_back b x)) s.near (λ j t. rest j)) (rest k)
-
-pub sound_then : {a b : List Step} {g g₁ g₂ : Graph} → Sound g a g₁ → Sound g₁ b g₂ → Sound g (a ++ b) g₂
-sound_then {a} {b} {g} {g₁} {g₂} p q = record {
-  taken = steps_append g.n g.states a b p.taken (rw (p.stands.size, p.stands.states) at q.taken);
-  stands = rw (decisions_append a b, marked_append (decisions a) (decisions b) g.states) (rw (p.stands.size, p.stands.states) at q.stands);
-  exact = λ x. cost_ext g (played_back (a ++ b) x) (played_back a (played_back b x)) (played_append a b x) ∙ p.exact (played_back b x) ∙ q.exact x;
-  never = λ x. ≤ℤ_trans (q.never x) (p.never x);
-}

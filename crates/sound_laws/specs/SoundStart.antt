@@ -15,16 +15,12 @@ use Rattle.std.proofs.lemmas.Bool.{eqb-false}
 use Rattle.whole.specs.Words.{is_zero_z}
 use Rattle.whole.specs.Tests.{clash}
 use Rattle.whole.specs.Lists.{past}
-use Rattle.rules.specs.Options.{asked}
 use Rattle.rules.specs.Objective.{Objective}
 use Rattle.rules.specs.Graph.{Graph, lin, active, add_linear, add_edge, add_term, add_terms, no_edges, bare, graph_of}
 use Rattle.rules.specs.Fixing.{fix, fix_all, start}
-use Rattle.rules.specs.Run.{ended}
 use Rattle.accepted_laws.specs.Accept.{Fit}
 use Rattle.cost_laws.specs.Stands.{Alive, Stands, stands_lin, stands_edge, fix_stands}
 use Rattle.objective_laws.specs.BuildLaws.{IndicesBelow, shaped_bare}
-use Rattle.sound_laws.specs.Sound.{Sound}
-use Rattle.sound_laws.specs.SoundRun.{run_sound, begin_sound}
 
 -- n decisions in the states f, none past them
 abbrev pub states_from : ℕ → List ℕ → List ℕ
@@ -116,11 +112,3 @@ module _ (o : Objective) (fit : Fit o) where
   pub start_stands : Stands o.n (states_from o.n o.fixings) (start o)
   unfolding start
   start_stands = fix_all_stands o.n 0 [] o.fixings (replicate (64 - o.n) 0) refl (omega (arith, fit.fixings)) fit.bytes (rw fit.fixings graph_stands)
-
-  -- the whole run, from the start to its end
-  pub ended_sound : Sound (start o) (ended o).state.steps (ended o).state.graph
-  unfolding ended
-  ended_sound = run_sound (start o) o.budget (asked o) _ (begin_sound (start o) (asked o) start_stands.fine)
-
-  pub ended_n : (ended o).state.graph.n ≡ o.n
-  ended_n = ended_sound.stands.size ∙ start_stands.size

@@ -1,2 +1,2 @@
-// Every run keeps the cost, at every budget and switch set: all in specs/.
+// Every run keeps the cost, at every budget and switch set: in specs/ and proofs/.
 #![tactic(auto)]

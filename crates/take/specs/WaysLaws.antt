@@ -9,7 +9,7 @@ use Rattle.rules.specs.Options.{low_degree, degree_three, dominant_edge}
 use Rattle.rules.specs.declared.Options.{Options}
 use Rattle.rules.specs.Graph.{Graph, degree}
 use Rattle.rules.specs.DegreeThree.{cubic}
-use Rattle.rules.specs.DominantEdge.{Found, nothing, at, dominant}
+use Rattle.rules.specs.DominantEdge.{nothing, at, dominant}
 use Rattle.dominant_edge.specs.AnswerLaws.{dominant_inside}
 use Rattle.take.specs.Ways.{dominant_if}
 use Rattle.rules.specs.Run.{Way, inactive, low, into, three, failed, idle, or_three, way}

@@ -1,5 +1,6 @@
 // A take: which way its decision goes, and what is then done with it.
 #![tactic(auto)]
+
 ghost use Rattle.std.specs.Prelude.{◌≡◌, false, cond, ◌<◌, ◌≤◌, get_or};
 ghost use Rattle.rules.specs.DegreeThree.{cubic};
 ghost use Rattle.rules.specs.DominantEdge.{weak as isWeak};

@@ -1,5 +1,6 @@
 // "then the steps last to first, each by its choice": a thin walk over a lent slice of steps.
 #![tactic(auto)]
+
 ghost use Rattle.std.specs.Prelude.{◌≡◌, map};
 ghost use Rattle.rules.specs.Record.{played};
 ghost use Rattle.rules.specs.Back.{play_all};
@@ -11,7 +12,8 @@ pub fn walk_back(steps: &[rules::Step], plan: [u8; 64]) -> [u8; 64]
     let mut k = steps.len();
     while k > 0 {
         k -= 1;
-        x = back::play::play_step(steps[k], x);
+        let next = back::play::play_step(steps[k], x);
+        x = next;
     }
     x
 }

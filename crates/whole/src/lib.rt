@@ -1,5 +1,6 @@
 // Laws of whole numbers, sums, lists and masks, and the few words the rules are written with, in specs/; here the same words for the code.
 #![tactic(auto)]
+
 ghost use Rattle.std.specs.Prelude.{◌≡◌, ◌≤◌};
 ghost use Rattle.whole.specs.Words.{one_if};
 ghost use Rattle.whole.specs.Masks.{without as less};

@@ -5,7 +5,8 @@ use Rattle.whole.specs.Cmp.{zero_is, zero_not}
 use Rattle.graph.specs.Held.{held}
 use Rattle.graph.specs.NearLaws.{near_inside}
 use Rattle.accepted_laws.specs.Small.{Small, small_more}
-use Rattle.size_laws.specs.SumSizes.{tees_three, entries_three}
+use Rattle.size_laws.specs.SumSizes.{tees_three}
+use Rattle.size_laws.proofs.PassSizes.{entries_three}
 use Rattle.graph.specs.Small.{within_any, dropped_within}
 use Rattle.rules.specs.Graph.{Graph}
 use Rattle.rules.specs.Eliminate.{tee, step_of}

@@ -8,9 +8,11 @@ use Rattle.take.proofs.without_step.Tie as tie
 
 returns : tie.Need-returns
 returns c =
-    let a = c.before.args in
+    let a = c.args in
     let taken : Step → Taken = λ x. record { did = a.did; stepped = false; frame = a.frame; step = x; near = 0 } in
-    ap taken c.no_step.ensures
+    ap taken c.no_step-none.ensures
 
-pub without-step-spec : {M : Type 1} → statement M
-without-step-spec = tie.close (tie.spec (λ c κs. search rules) returns)
+pub without_step_spec : {M : Type 1} → statement M
+without_step_spec = tie.close (tie.spec
+    (λ c κs. search rules)
+    returns)

@@ -22,7 +22,7 @@ use Rattle.record_laws.specs.Fields.{Held}
 use Rattle.record_laws.specs.RoundTrip as trip
 use Rattle.demand_laws.specs.Demands.{reduction_for, ByBlock}
 use Rattle.demand_laws.specs.RunEnds.{end_steps, end_fine, end_taken}
-use Rattle.run_record_laws.specs.ByCalls.{run_record_sound, reply_is}
+use Rattle.run_record_laws.proofs.ByCalls.{run_record_sound, reply_is}
 
 -- ---- of any record that is not broken
 module _ (r : Record) (h : Held r) (s : sound r ≡ true) where

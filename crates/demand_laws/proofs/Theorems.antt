@@ -21,7 +21,7 @@ use Rattle.objective_laws.specs.ObjectiveCost.{Keeps}
 use Rattle.cost_laws.specs.BlockCost.{cost_ext}
 use Rattle.objective_laws.proofs.Theorems.{start_cost_kept}
 use Rattle.sound_laws.specs.Sound.{decisions}
-use Rattle.sound_laws.specs.SoundStart.{ended_sound}
+use Rattle.sound_laws.proofs.SoundEnded.{ended_sound}
 use Rattle.run_laws.specs.StepLaws.{steps_alive}
 use Rattle.run_laws.specs.RemainingLaws.{remaining_before}
 use Rattle.whole.specs.Members.{in_at}

@@ -10,7 +10,7 @@ use Rattle.rules.specs.SmallBlock.{cheapest}
 use Rattle.rules.specs.Refuse.{reduce_refusal}
 use Rattle.cost_laws.specs.BlockCost.{cheapest_least}
 use Rattle.demand_laws.specs.Demands.{Values, cost_of_plan, cost_of_answer, grown_back, projection, Least, SameLeast, LeastGrown}
-use Rattle.demand_laws.specs.Theorems.{first_half, second_half}
+use Rattle.demand_laws.proofs.Theorems.{first_half, second_half}
 
 -- ---- the lists of r values are the masks below 2 ^ r
 unfoldable digits_of : ℕ → ℕ → List ℕ

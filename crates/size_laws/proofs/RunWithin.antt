@@ -15,10 +15,13 @@ use Rattle.cost_laws.specs.BlockSteps.{played_back}
 use Rattle.cost_laws.specs.Stands.{Fine}
 use Rattle.accepted_laws.specs.Accept.{Fit}
 use Rattle.sound_laws.specs.Sound.{Sound}
-use Rattle.sound_laws.specs.SoundRun.{run_sound, begin_sound}
-use Rattle.sound_laws.specs.SoundStart.{start_stands, ended_sound}
+use Rattle.sound_laws.specs.SoundRun.{begin_sound}
+use Rattle.sound_laws.proofs.SoundRun.{run_sound}
+use Rattle.sound_laws.specs.SoundStart.{start_stands}
+use Rattle.sound_laws.proofs.SoundEnded.{ended_sound}
 use Rattle.size_laws.specs.Values.{Narrow, TakenFrom}
-use Rattle.size_laws.specs.ValueLaws.{start_narrow, taken_narrow, narrow_within}
+use Rattle.size_laws.specs.ValueLaws.{start_narrow, taken_narrow}
+use Rattle.size_laws.proofs.NarrowWithin.{narrow_within}
 
 -- "the reduced cost only takes values the original takes"
 sound_taken : {g g' : Graph} {steps : List Step} → Sound g steps g' → TakenFrom g g'

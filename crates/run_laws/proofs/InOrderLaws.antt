@@ -4,7 +4,6 @@ use Rattle.std.specs.Prelude.{◌≡◌, refl, List, [], ◌∷◌, ◌++◌, �
 use Rattle.std.proofs.Math.Path.{subst}
 use native.Mathlib.Omega.{arith}
 use Rattle.std.proofs.Common.{length-append}
-use Rattle.whole.specs.Words.{one_if}
 use Rattle.whole.specs.Pigeon.{Apart, pigeon}
 use Rattle.whole.specs.Members.{apart_tail, apart_wider}
 use Rattle.whole.specs.Tests.{at_most_one}
@@ -26,9 +25,10 @@ use Rattle.cost_laws.specs.Stands.{Fine}
 use Rattle.cost_laws.specs.Found.{found_block}
 use Rattle.accepted_laws.specs.Accept.{Fit}
 use Rattle.sound_laws.specs.Sound.{Sound}
-use Rattle.sound_laws.specs.SoundRun.{run_sound, begin_sound}
+use Rattle.sound_laws.specs.SoundRun.{begin_sound}
+use Rattle.sound_laws.proofs.SoundRun.{run_sound}
 use Rattle.sound_laws.specs.SoundStart.{start_stands}
-use Rattle.size_laws.specs.RunWithin.{reduced_within}
+use Rattle.size_laws.proofs.RunWithin.{reduced_within}
 use Rattle.run_laws.specs.DueLaws.{Due, take, block, next_due, run_one}
 use Rattle.run_laws.specs.QueueLaws.{waiting_apart, join_apart}
 use Rattle.run_laws.specs.StepLaws.{steps_few, block_steps_length}

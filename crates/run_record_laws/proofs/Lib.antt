@@ -1,0 +1,3 @@
+pub mod RecordSound
+pub mod ByCalls
+pub mod ByBlock

@@ -1,0 +1,3 @@
+pub mod NarrowWithin
+pub mod PassSizes
+pub mod RunWithin

@@ -1,0 +1,4 @@
+pub mod SoundThen
+pub mod SoundReductions
+pub mod SoundRun
+pub mod SoundEnded
