@@ -11,7 +11,7 @@ use Rattle.accepted_laws.specs.Accept.{Fit}
 use Rattle.run_laws.specs.InOrder.{InOrder}
 use Rattle.graph.specs.Held.{held}
 use Rattle.graph.specs.declared.Frame.{Frame}
-use Rattle.queue.specs.Items.{items, QueueKept}
+use Rattle.queue.specs.Items.{items}
 use Rattle.queue.specs.declared.Queue.{Queue}
 use Rattle.state.specs.Holds.{Arrays, Holds}
 use Rattle.state.specs.declared.State.{State}

@@ -1,9 +1,9 @@
 -- A run begins, a take or a block takes it one unit on, and it ends; and what a state on its course gives: room for every count, weights within the size rule, a block that can be eliminated.
 -- Assumes nothing.
-use Rattle.std.specs.Prelude.{◌≡◌, Bool, true, false, ◌≢◌, ℕ, ◌+◌, ◌-◌, ◌<◌, ◌≤◌, get_or, set, take, drop, ℤ}
+use Rattle.std.specs.Prelude.{◌≡◌, true, false, ◌≢◌, ℕ, ◌+◌, ◌-◌, ◌<◌, ◌≤◌, get_or, set, take, ℤ}
 use Rattle.std.proofs.Math.Path.{refl, sym, ap}
 use Rattle.std.proofs.Common.{◌∙◌, subst, arith, sub-eq-zero_of_le, length-take-le, eq-eqb}
-use mathlib.Core.List.{List, [], ◌∷◌, ◌++◌}
+use mathlib.Core.List.{List, [], ◌∷◌}
 use Rattle.std.proofs.Math.Nat.{sub-zero}
 use Rattle.std.proofs.Math.ListN.{length, length-append}
 use Rattle.whole.specs.Pigeon.{pigeon}
@@ -33,7 +33,7 @@ use Rattle.run_laws.specs.RemainingLaws.{remaining_count, to_actives}
 use Rattle.graph.specs.Held.{held}
 use Rattle.graph.specs.Shows.{Shows}
 use Rattle.graph.specs.declared.Frame.{Frame}
-use Rattle.queue.specs.Items.{items, QueueKept}
+use Rattle.queue.specs.Items.{items}
 use Rattle.queue.specs.declared.Queue.{Queue}
 use Rattle.small_block.specs.ByMasks.{near_by, block_by}
 use Rattle.small_block.specs.Seeking.{a_block}
@@ -47,13 +47,11 @@ use Rattle.state.specs.Steps.{StepsKept}
 use Rattle.state.specs.StepsLaws.{kept_more}
 use Rattle.state.specs.declared.State.{State}
 use Rattle.state.specs.declared.steps.Steps.{Steps}
-use Rattle.take.specs.Effects.{Ready, Effect, Leaves}
+use Rattle.take.specs.Effects.{Ready, Leaves}
 use Rattle.take.specs.declared.Taken.{Taken}
 use Rattle.run.specs.Blocks.{Removable}
 use Rattle.run.specs.BlocksLaws.{due_take}
 use Rattle.run.specs.Course.{Started, Course, ToPass, InPass, Ends}
-use Rattle.run.specs.declared.Reached.{Reached}
-use Rattle.run.specs.declared.Ended.{Ended}
 
 -- ---- a run begins
 pub course_begins : (budget : ℕ) (opt : Options) (f : Frame) (s : State) (made : Steps) (l e : List ℤ) (m ss : List ℕ) → Started f l e ss → Shows f.n e m
