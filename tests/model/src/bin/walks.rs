@@ -64,11 +64,13 @@ fn main() {
         }
         let told: Vec<String> = steps.iter().map(call).collect();
         let body = format!("let steps = [{}];\n    show(rt, &steps, {plan:?})", told.join(", "));
-        writeln!(program, "fn case_{k}(rt: &HostRuntime) -> io::Result<()> {{\n    {body}\n}}").unwrap();
+        writeln!(program, "fn case_{k}(rt: &HostRuntime) -> io::Result<()> {{\n    {body}\n}}")
+            .unwrap();
         writeln!(calls, "    case_{k}(&rt)?;").unwrap();
         expected.extend(grown.iter().map(|&x| char::from(48 + x)));
     }
-    write!(program, "fn main(rt: HostRuntime) -> io::Result<()> {{\n{calls}    Ok(())\n}}\n").unwrap();
+    write!(program, "fn main(rt: HostRuntime) -> io::Result<()> {{\n{calls}    Ok(())\n}}\n")
+        .unwrap();
     write(format!("{folder}/src/main.rt"), program).unwrap();
     write(format!("{folder}/stdout"), &expected).unwrap();
     println!("{} walks, {played} steps", expected.len() / 64);
