@@ -1,7 +1,7 @@
 /* Balecreak: shrinks an objective over 0/1 decisions exactly, and grows the answers of the small
  * objective back into full plans that cost the same.
  *
- * Link with libbalecreak.a (made by `rt staticlib balecreak`). The library is proved: for every
+ * Link with libbalecreak.a (made by `bindings/archive`). The library is proved: for every
  * length and every value it gives what its rules say, and it ends. It keeps no state, takes no
  * memory from the heap, and may be called from any number of threads at once.
  *

@@ -1,5 +1,5 @@
 //! Finds libbalecreak.a: the folder named by BALECREAK_LIB, or target/staticlib of the repository,
-//! where `rt staticlib balecreak` puts it.
+//! where `bindings/archive` puts it.
 use std::env;
 use std::path::{Path, PathBuf};
 
@@ -11,7 +11,7 @@ fn main() {
     println!("cargo:rerun-if-changed={}", library.display());
     if !library.exists() {
         println!(
-            "cargo:warning=no {}: run `rt staticlib balecreak`, or set BALECREAK_LIB to its folder",
+            "cargo:warning=no {}: run `bindings/archive`, or set BALECREAK_LIB to its folder",
             library.display()
         );
     }

@@ -44,8 +44,7 @@ fn put_counts(counts: &mut [u32], list: [u32; 14])
 }
 
 // Refuses with 1 to 6 and 9.
-#[unsafe(no_mangle)]
-pub extern "C" fn balecreak_reduce(
+pub fn balecreak_reduce(
     n: u32,
     weights: &[i64],
     firsts: &[u32],
@@ -101,8 +100,7 @@ pub extern "C" fn balecreak_reduce(
 }
 
 // Refuses with 9 to 12.
-#[unsafe(no_mangle)]
-pub extern "C" fn balecreak_check(block: &[u8]) -> u32
+pub fn balecreak_check(block: &[u8]) -> u32
     ensures { result ≡ read_refusal block.now }
 {
     let reading = record::read::read_record(block);
@@ -110,8 +108,7 @@ pub extern "C" fn balecreak_check(block: &[u8]) -> u32
 }
 
 // The record that a block holds, written anew. Refuses with 9 to 12; 9 for either length.
-#[unsafe(no_mangle)]
-pub extern "C" fn balecreak_copy(block: &[u8], out: &mut [u8]) -> u32
+pub fn balecreak_copy(block: &[u8], out: &mut [u8]) -> u32
     ensures { Copied block.now out.old result out.new }
 {
     if out.len() != 512 {
@@ -126,16 +123,14 @@ pub extern "C" fn balecreak_copy(block: &[u8], out: &mut [u8]) -> u32
 }
 
 // Refuses with 9 to 12, 7, 8.
-#[unsafe(no_mangle)]
-pub extern "C" fn balecreak_grow_back(block: &[u8], answer: &[u8], plan: &mut [u8]) -> u32
+pub fn balecreak_grow_back(block: &[u8], answer: &[u8], plan: &mut [u8]) -> u32
     ensures { GrownBackBlock block.now answer.now plan.old result plan.new }
 {
     back::grow::grow_back_block(block, answer, plan) as u32
 }
 
 // Refuses with 9 to 12, 7, 8.
-#[unsafe(no_mangle)]
-pub extern "C" fn balecreak_project(block: &[u8], plan: &[u8], out: &mut [u8]) -> u32
+pub fn balecreak_project(block: &[u8], plan: &[u8], out: &mut [u8]) -> u32
     ensures { ProjectedBlock block.now plan.now out.old result out.new }
 {
     back::project::project_block(block, plan, out) as u32

@@ -10,19 +10,23 @@ use std::fs::write;
 
 const CASES: usize = 60;
 
-const SHOW: &str = "
+const SHOW: &str = "#![tactic(auto)]
+
+use std::io;
+use std::io::Write;
+
 fn step(decision: u8, degree: u8, first: u8, second: u8, third: u8, choices: u8) -> rules::Step {
     rules::Step { decision, degree, first, second, third, choices }
 }
 
-fn show(steps: &[rules::Step], plan: [u8; 64]) {
+fn show(rt: &HostRuntime, steps: &[rules::Step], plan: [u8; 64]) -> io::Result<()> {
     let mut out = walk_back::walk_back(steps, plan);
     let mut i = 0;
     while i < 64 {
         out[i] = out[i] + 48;
         i = i + 1;
     }
-    io::write_all(libc::STDOUT_FILENO, &out);
+    rt.stdout().write_all(&out)
 }
 ";
 
@@ -59,12 +63,14 @@ fn main() {
             continue; // an array of none has no type of its own
         }
         let told: Vec<String> = steps.iter().map(call).collect();
-        let body = format!("let steps = [{}];\n    show(&steps, {plan:?});", told.join(", "));
-        writeln!(program, "fn case_{k}() {{\n    {body}\n}}").unwrap();
-        writeln!(calls, "    case_{k}();").unwrap();
+        let body = format!("let steps = [{}];\n    show(rt, &steps, {plan:?})", told.join(", "));
+        writeln!(program, "fn case_{k}(rt: &HostRuntime) -> io::Result<()> {{\n    {body}\n}}")
+            .unwrap();
+        writeln!(calls, "    case_{k}(&rt)?;").unwrap();
         expected.extend(grown.iter().map(|&x| char::from(48 + x)));
     }
-    write!(program, "fn main() {{\n{calls}}}\n").unwrap();
+    write!(program, "fn main(rt: HostRuntime) -> io::Result<()> {{\n{calls}    Ok(())\n}}\n")
+        .unwrap();
     write(format!("{folder}/src/main.rt"), program).unwrap();
     write(format!("{folder}/stdout"), &expected).unwrap();
     println!("{} walks, {played} steps", expected.len() / 64);
