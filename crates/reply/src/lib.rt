@@ -1,5 +1,6 @@
 // What the program writes for a text.
 #![tactic(auto)]
+
 ghost use Rattle.std.specs.Prelude.{◌≡◌, ◌≤◌, length, take};
 ghost use Rattle.rules.specs.Objective.{objective};
 ghost use Rattle.rules.specs.ReadText.{given, objective_of};

@@ -5,14 +5,14 @@ use Rattle.reply.specs.CallLaws.{gives_fair, gives_shown}
 use Rattle.reply.proofs.reply_to.Statement.{statement}
 use Rattle.reply.proofs.reply_to.Tie as tie
 
-put-reply-requires : tie.Need-put-reply-requires
-put-reply-requires c κs = let z = c.before.before.before.before.before in (z.before.before.before.before.before.before.before.requires, gives_fair refl refl z.reduce.ensures)
+put-reply-requires : tie.Need-put_reply-requires
+put-reply-requires c κs = (c.requires, gives_fair refl refl c.reduce-reduction.ensures)
 
 returns : tie.Need-returns
-returns c = let z = c.before.before in gives_shown refl refl z.before.before.before.before.before.before.reduce.ensures z.put-reply.ensures
+returns c = gives_shown refl refl c.reduce-reduction.ensures c.put_reply.ensures
 
-pub reply-to-spec : {M : Type 1} → statement M
-reply-to-spec =
+pub reply_to_spec : {M : Type 1} → statement M
+reply_to_spec =
     tie.close
     (tie.spec
     (λ c. search rules)
