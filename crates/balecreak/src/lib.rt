@@ -1,5 +1,6 @@
 // The public calls for vendors, on numbers and slices alone: a slice goes as a pointer and a length.
 #![tactic(auto)]
+
 ghost use Rattle.std.specs.Prelude.{◌≡◌, length};
 ghost use Rattle.rules.specs.Objective.{objective};
 ghost use Rattle.rules.specs.Refuse.{read_refusal};

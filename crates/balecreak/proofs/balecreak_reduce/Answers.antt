@@ -1,6 +1,6 @@
-use Rattle.std.proofs.Common.{◌≡◌, sym, ◌∙◌, ℕ, length}
-use Rattle.rules.specs.Objective.{Objective, objective}
-use Rattle.balecreak.specs.IntoLaws.{Passed, into_number, into_passed, refused_into, accepted_into}
+use Rattle.std.proofs.Common.{sym, ◌∙◌, length}
+use Rattle.rules.specs.Objective.{objective}
+use Rattle.balecreak.specs.IntoLaws.{into_number, into_passed, refused_into, accepted_into}
 use Rattle.balecreak.proofs.balecreak_reduce.Goals as goal
 
 pub returns-then-number-ne0 : goal.returns-then-number-ne0
