@@ -2,3 +2,4 @@ pub mod Accept
 pub mod Mass
 pub mod Small
 pub mod Rows
+pub mod Answers

@@ -9,21 +9,13 @@ use native.Mathlib.Numerals.{add-one}
 use native.Mathlib.Nat.{add-zero, sub-zero}
 use lib.Dec.{eqb}
 use lib.ListN.{length, get_or, set, take, drop, replicate, length-map, length-set, drop_of_length-le}
-use lib.Seq.{drop-cons, get_or-drop, get_or-take, drop-set-lt, take-add, length-take-le}
+use lib.Seq.{drop-cons, get_or-drop, drop-set-lt, take-add, length-take-le}
 use borrow.Author.Tests.{eq-eqb, ne_eqb}
 use Rattle.whole.specs.Words.{from, those}
 use Rattle.whole.specs.Those.{rest_more, rest_same, rest_end}
 use Rattle.rules.specs.Back.{place, remaining_of, project}
 use Rattle.whole.specs.Stores.{store_more}
 use Rattle.back.proofs.ListLaws.{tail_drop, take_replicate}
-
--- the first n of 64 states, and the one at i
-pub record Front (states : List ℕ) (n i : ℕ) : Type 0 where
-  pub long : length (take n states) ≡ n
-  pub here : i < n → get_or (take n states) i 0 ≡ get_or states i 0
-
-pub front : (states : List ℕ) (n i : ℕ) → length states ≡ 64 → n ≤ 64 → Front states n i
-front states n i l h = record { long = length-take-le n states (omega arith); here = λ k. get_or-take n states i 0 k }
 
 -- what stands for a decision of state s before any step is played
 abbrev pub put_in : ℕ → ℕ → ℕ

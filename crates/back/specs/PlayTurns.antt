@@ -1,7 +1,9 @@
 -- Steps played from the last to the first, one a turn: what is played, k steps before the end of the walk.
 -- Assumes nothing.
-use Rattle.std.specs.Prelude.{◌≡◌, List, map, ℕ, zero, suc, ◌-◌, ◌<◌, ◌≤◌, length, get_or, drop}
-use Rattle.std.proofs.Common.{arith, drop-cons}
+use Rattle.std.specs.Prelude.{◌≡◌, refl, List, [], ◌∷◌, map, reverse, fold, ℕ, zero, suc, ◌-◌, ◌<◌, ◌≤◌, length, get_or, drop}
+use Rattle.std.proofs.Common.{arith, ap, ◌∙◌, drop-cons}
+use Rattle.std.proofs.lemmas.List.{reverse-append}
+use Rattle.std.proofs.lemmas.List.Sums.{fold-append}
 use Rattle.std.proofs.Math.Seq.{drop-length}
 use Rattle.rules.specs.Back.{play, play_all}
 use Rattle.rules.specs.Record.{played, no_step}
@@ -33,3 +35,12 @@ one_played ys (suc j) x y r h l e f =
 pub all_played : (ys : List Step) (k : ℕ) (x y : List ℕ) → k ≤ 0 → y ≡ plays_back (drop k ys) x → y ≡ plays_back ys x
 all_played ys zero x y h e = e
 all_played ys (suc k) x y h e = absurd (omega arith)
+
+-- the same as one fold over the steps, the last first
+pub fold_back : (ys : List Step) (x : List ℕ) → fold (λ x s. play (played s) x) x (reverse ys) ≡ plays_back ys x
+unfolding play_all
+fold_back [] x = refl
+fold_back (y ∷ ys) x =
+    ap (fold (λ x s. play (played s) x) x) (reverse-append (y ∷ []) ys)
+    ∙ fold-append (λ x s. play (played s) x) x (reverse ys) (y ∷ [])
+    ∙ ap (play (played y)) (fold_back ys x)

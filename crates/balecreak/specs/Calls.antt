@@ -38,8 +38,8 @@ pub record GivesInto (k : ℕ) (o : Objective) (l e : List ℤ) (b c : List ℕ)
   pub number_is : number ≡ k
   pub linear_is : l' ≡ unless k (linear_after o l e) l
   pub edges_is : e' ≡ unless k (edges_after o l e) e
-  pub block_is : b' ≡ unless k (block_of (reduction o (length l) (length e)).«record») b
-  pub counts_is : c' ≡ unless k (count_list (reduction o (length l) (length e))) c
+  pub block_is : b' ≡ unless k (block_of (reduction o).«record») b
+  pub counts_is : c' ≡ unless k (count_list (reduction o)) c
 
 abbrev pub ReducedInto : Objective → List ℤ → List ℤ → List ℕ → List ℕ → ℕ → List ℤ → List ℤ → List ℕ → List ℕ → Type 0
 ReducedInto o l e b c = GivesInto (into_refusal o (length l) (length e) (length b) (length c)) o l e b c

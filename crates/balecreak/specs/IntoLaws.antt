@@ -8,7 +8,8 @@ use Rattle.whole.specs.Tests.{same_eqb}
 use Rattle.rules.specs.Objective.{Objective}
 use Rattle.rules.specs.Record.{block_of}
 use Rattle.rules.specs.Refuse.{first_row, reduce_rows, reduce_refusal}
-use Rattle.rules.specs.Call.{unless}
+use Rattle.rules.specs.Call.{unless, reduction}
+use Rattle.accepted_laws.specs.Answers.{answered_value}
 use Rattle.rules.specs.declared.Reduction.{Reduction}
 use Rattle.accepted_laws.specs.Accept.{Accepted, accept_rows}
 use Rattle.accepted_laws.specs.Rows.{rows_below, both_passed, rows_off}
@@ -53,11 +54,12 @@ module _ (o : Objective) (l e : List ℤ) (b c : List ℕ) where
   -- none does
   pub accepted_into : (r : Reduction) (l' e' : List ℤ) (b' c' : List ℕ) → into_refusal o (length l) (length e) (length b) (length c) ≡ 0 → Done o r l' e' → b' ≡ block_of r.«record» → c' ≡ count_list r → ReducedInto o l e b c 0 l' e' b' c'
   accepted_into r l' e' b' c' z d p q =
-      let g = gives_done o 0 l e (sym (into_passed o (length l) (length e) (length b) (length c) z).reduces) r l' e' refl d in
+      let g = gives_done o l e r l' e' (sym (into_passed o (length l) (length e) (length b) (length c) z).reduces) d in
+      let h : r ≡ reduction o = answered_value g.reduction refl in
       rw z record {
         number_is = refl;
         linear_is = g.linear;
         edges_is = g.edges;
-        block_is = p ∙ ap (λ (r : Reduction). block_of r.«record») g.reduction;
-        counts_is = q ∙ ap count_list g.reduction;
+        block_is = p ∙ ap (λ (r : Reduction). block_of r.«record») h;
+        counts_is = q ∙ ap count_list h;
       }

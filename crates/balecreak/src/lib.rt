@@ -1,20 +1,32 @@
 // The public calls for vendors, on numbers and slices alone: a slice goes as a pointer and a length.
 #![tactic(auto)]
 
-ghost use Rattle.std.specs.Prelude.{◌≡◌, length};
+ghost use Rattle.std.specs.Prelude.{◌≡◌};
 ghost use Rattle.rules.specs.Objective.{objective};
+ghost use Rattle.rules.specs.Given.{of_lists};
+ghost use Rattle.rules.specs.Numbers.{answer_of};
 ghost use Rattle.rules.specs.Refuse.{read_refusal};
 ghost use Rattle.back.specs.Calls.{GrownBackBlock, ProjectedBlock};
-ghost use Rattle.balecreak.specs.Calls.{count_list, ReducedInto, Copied};
+ghost use Rattle.balecreak.specs.Calls.{into_refusal, count_list, ReducedInto, Copied};
 
-use rules::Reduction;
+use refusal::row;
+use rules::{Objective, Reduction, Refusal};
+
+// The one place where what a call gave becomes its number.
+fn number<T: Copy>(given: Result<T, Refusal>) -> u32
+    ensures { result ≡ answer_of given }
+{
+    match given {
+        Ok(_) => 0,
+        Err(refusal) => u32::from(u8::from(refusal)),
+    }
+}
 
 // What a vendor's list of counts is to hold.
 fn listing(r: Reduction) -> [u32; 14]
     ensures { result ≡ count_list r }
 {
     let c = r.counts;
-    let complete = whole::one_if(r.complete);
     [
         c.eliminated,
         c.degree_three_eliminated,
@@ -29,19 +41,32 @@ fn listing(r: Reduction) -> [u32; 14]
         r.takes,
         r.blocks,
         r.units,
-        complete,
+        u32::from(r.complete),
     ]
 }
 
-fn put_counts(counts: &mut [u32], list: [u32; 14])
-    requires { length counts.old ≡ 14 }
-    ensures { counts.new ≡ list }
+// reduce's rows, where a wrong length of the counts is one of row 2's; then the block's.
+fn into_refusal(o: Objective, l: usize, e: usize, b: usize, c: usize) -> Result<(), Refusal>
+    ensures { answer_of result ≡ into_refusal (of_lists o.entry) l e b c }
 {
-    let mut k: usize = 0;
-    while k < 14 {
-        counts[k] = list[k];
-        k = k + 1;
-    }
+    refusal::refusal(o, l, e, c != 14)?;
+    row(b != 512, Refusal::BlockLength)
+}
+
+fn reduce_into(
+    o: Objective,
+    linear: &mut [i64],
+    edges: &mut [i64],
+    block: &mut [u8],
+    counts: &mut [u32],
+) -> Result<(), Refusal>
+    ensures { ReducedInto (of_lists o.entry) linear.old edges.old block.old counts.old (answer_of result) linear.new edges.new block.new counts.new }
+{
+    into_refusal(o, linear.len(), edges.len(), block.len(), counts.len())?;
+    let r = reduce::accepted(o, linear, edges);
+    block.copy_from_slice(&record::write::block_of(r.record));
+    counts.copy_from_slice(&listing(r));
+    Ok(())
 }
 
 // Refuses with 1 to 6 and 9.
@@ -61,11 +86,7 @@ pub fn balecreak_reduce(
 ) -> u32
     ensures { ReducedInto (objective n weights.now firsts.now seconds.now term_weights.now fixings.now switches budget) linear.old edges.old block.old counts.old result linear.new edges.new block.new counts.new }
 {
-    let l = linear.len();
-    let e = edges.len();
-    let b = block.len();
-    let c = counts.len();
-    let above = refusal::refusal(
+    let o = Objective {
         n,
         weights,
         firsts,
@@ -74,65 +95,43 @@ pub fn balecreak_reduce(
         fixings,
         switches,
         budget,
-        l,
-        e,
-        c != 14,
-    );
-    let number = refusal::first_of(above, refusal::row(9, b != 512, 0));
-    if number != 0 {
-        return number as u32;
-    }
-    let r = reduce::accepted(
-        n as usize,
-        weights,
-        firsts,
-        seconds,
-        term_weights,
-        fixings,
-        switches,
-        budget,
-        &mut linear[..],
-        &mut edges[..],
-    );
-    record::write::put_record(&mut block[..], r.record);
-    let list = listing(r);
-    put_counts(&mut counts[..], list);
-    0
+    };
+    number(reduce_into(o, linear, edges, block, counts))
 }
 
 // Refuses with 9 to 12.
 pub fn balecreak_check(block: &[u8]) -> u32
     ensures { result ≡ read_refusal block.now }
 {
-    let reading = record::read::read_record(block);
-    reading.answer as u32
+    number(record::read::read_record(block))
+}
+
+fn copy(block: &[u8], out: &mut [u8]) -> Result<(), Refusal>
+    ensures { Copied block.now out.old (answer_of result) out.new }
+{
+    row(out.len() != 512, Refusal::BlockLength)?;
+    let record = record::read::read_record(block)?;
+    out.copy_from_slice(&record::write::block_of(record));
+    Ok(())
 }
 
 // The record that a block holds, written anew. Refuses with 9 to 12; 9 for either length.
 pub fn balecreak_copy(block: &[u8], out: &mut [u8]) -> u32
     ensures { Copied block.now out.old result out.new }
 {
-    if out.len() != 512 {
-        return 9;
-    }
-    let reading = record::read::read_record(block);
-    if reading.answer != 0 {
-        return reading.answer as u32;
-    }
-    record::write::put_record(out, reading.record);
-    0
+    number(copy(block, out))
 }
 
 // Refuses with 9 to 12, 7, 8.
 pub fn balecreak_grow_back(block: &[u8], answer: &[u8], plan: &mut [u8]) -> u32
     ensures { GrownBackBlock block.now answer.now plan.old result plan.new }
 {
-    back::grow::grow_back_block(block, answer, plan) as u32
+    number(back::grow::grow_back_block(block, answer, plan))
 }
 
 // Refuses with 9 to 12, 7, 8.
 pub fn balecreak_project(block: &[u8], plan: &[u8], out: &mut [u8]) -> u32
     ensures { ProjectedBlock block.now plan.now out.old result out.new }
 {
-    back::project::project_block(block, plan, out) as u32
+    number(back::project::project_block(block, plan, out))
 }

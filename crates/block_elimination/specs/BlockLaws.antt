@@ -1,56 +1,111 @@
 -- Laws of a block's minima, its steps and its drops.
 -- Assumes nothing.
-use Rattle.std.specs.Prelude.{◌≡◌, length, get_or, set, take, drop, replicate, ℤ, pos}
-use Rattle.std.proofs.Math.Path.{refl, sym, ap, ap₂, fun_ext}
-use Rattle.std.proofs.Common.{◌∙◌, subst, arith, add-one, add-zero, zero-add}
+use Rattle.std.specs.Prelude.{◌≡◌, length, map, get_or, set, drop, replicate, ℤ, pos}
+use Rattle.std.proofs.Math.Path.{refl, sym, ap, ap₂}
+use Rattle.std.proofs.Math.Decide.{ℕ_discrete, dec_lt}
+use Rattle.std.proofs.Common.{◌∙◌, subst, arith, add-one, add-zero, zero-add, drop-cons, get_or-set_same, get_or-set_other, pow_mono, length-drop}
+use Rattle.std.proofs.lemmas.List.{map-append, nil_from_length}
 use mathlib.Core.List.{List, [], ◌∷◌, ◌++◌, append_assoc}
 use Prim.Native.Nat.{ℕ, zero, suc, ◌+◌, ◌-◌, ◌^◌, ◌<◌, ◌≤◌}
 use Rattle.whole.specs.Parts.{∣◌∣}
 use Rattle.whole.specs.Words.{bit, bits_from, tab}
 use Rattle.whole.specs.Masks.{bit_none}
-use Rattle.whole.specs.Lists.{fill_step, tab_same, replicate_at, tab_front}
+use Rattle.whole.specs.Lists.{tab_same, tab_front, replicate_at}
 use Rattle.whole.specs.Counts.{shift}
+use Rattle.whole.specs.Members.{apart_at}
+use Rattle.whole.specs.Pigeon.{Apart}
 use Rattle.rules.specs.declared.Step.{Step}
 use Rattle.rules.specs.Graph.{Graph, drop_to}
 use Rattle.rules.specs.Eliminate as rule
 use Rattle.rules.specs.Record.{hold}
 use Rattle.rules.specs.Size.{Within}
-use Rattle.rules.specs.SmallBlock.{boundary, inner, cheapest, best_mask, block_table, drop_all, block_steps}
-use Rattle.accepted_laws.specs.Small.{small_set}
+use Rattle.rules.specs.SmallBlock.{boundary, inner, cheapest, best_mask, block_table, drop_all, eliminate_block, block_steps}
+use Rattle.cost_laws.specs.BlockCost.{boundary_apart}
+use Rattle.cost_laws.specs.Found.{SmallBlock}
+use Rattle.accepted_laws.specs.Small.{Small}
 use Rattle.graph.specs.Small.{dropped_within}
-use Rattle.block_minima.specs.Weights.{weights, weights_inner, Minimum}
-use Rattle.block_elimination.specs.Block.{Lowest, outside_pair, member_step}
+use Rattle.low_degree.specs.AbsorbLaws.{absorb_same}
+use Rattle.block_minima.specs.Weights.{Listed, Minimum}
+use Rattle.block_minima.specs.declared.Best.{Best}
+use Rattle.block_elimination.specs.Block.{none, mask_at, cost_at, Lowest, member_step}
 
--- ---- a step as a record holds it
-pub held_step : (i c d f s t : ℕ) (near : List ℕ) → d ≡ length near → f ≡ get_or near 0 0 → s ≡ get_or near 1 0 → t ≡ get_or near 2 0
-    → ◌≡◌ {A = Step} (record { decision = i; degree = d; first = f; second = s; third = t; choices = c }) (hold (rule.step i near c))
-held_step i c d f s t near p q r u = rw (p, q, r, u)
+-- ---- the minima in turn
+module _ (c : ℕ → ℕ → ℤ) (count : ℕ) where
+  pub lowest_none : (b : Best) → b ≡ none → Lowest c count 0 (replicate 4 b)
+  lowest_none b e = record { each = λ f l. absurd (omega arith); rest = λ f l. ap (λ (x : Best). get_or (replicate 4 x) f none) e ∙ replicate_at none 4 f }
 
-pub pair_length : (a b w : ℕ) → w ≤ 2 → length (outside_pair a b w) ≡ w
-pair_length a b zero h = refl
-pair_length a b (suc zero) h = refl
-pair_length a b (suc (suc zero)) h = refl
-pair_length a b (suc (suc (suc w))) h = absurd (omega arith)
+  pub lowest_more : (f : ℕ) (won : List Best) (b : Best) → f < length won → Lowest c count f won → Minimum (c f) count b.mask b.cost → Lowest c count (f + 1) (set won f b)
+  lowest_more f won b l w m = record { each = λ k h. go k h (ℕ_discrete k f); rest = λ k h. get_or-set_other won f k b none (λ e. omega arith) ∙ w.rest k (omega arith) }
+    where
+      go : (k : ℕ) → k < f + 1 → Dec (k ≡ f) → Minimum (c k) count (mask_at (set won f b) k) (cost_at (set won f b) k)
+      go k h (yes e) = rw e (subst (λ (x : Best). Minimum (c f) count x.mask x.cost) (sym (get_or-set_same won f b none l)) m)
+      go k h (no d) = subst (λ (x : Best). Minimum (c k) count x.mask x.cost) (sym (get_or-set_other won f k b none d)) (w.each k (omega arith))
 
-pub pair_third : (a b w : ℕ) → get_or (outside_pair a b w) 2 0 ≡ 0
-pair_third a b zero = refl
-pair_third a b (suc zero) = refl
-pair_third a b (suc (suc w)) = third w
-  where
-    third : (w : ℕ) → get_or (a ∷ b ∷ take w []) 2 0 ≡ 0
-    third zero = refl
-    third (suc w) = refl
+-- ---- the table of what they cost
+abbrev pub table_of : List Best → List ℤ
+table_of won = tab (cost_at won) 4 ++ replicate 4 (pos 0)
 
--- ---- choices: a mask that is missing is 0, and chooses 0
-pub choices_are : (best : ℕ → ℕ) (masks : List ℕ) (w k : ℕ) → w ≤ 2 → masks ≡ tab best (2 ^ w) ++ drop (2 ^ w) (replicate 4 0)
-    → bits_from (λ f. bit (get_or masks f 0) k) 0 4 ≡ bits_from (λ f. bit (best f) k) 0 (2 ^ w)
-unfolding tab bits_from
-choices_are best masks zero k h e = rw (e, bit_none k) (omega arith)
-choices_are best masks (suc zero) k h e = rw (e, bit_none k) (omega arith)
-choices_are best masks (suc (suc zero)) k h e = rw e
-choices_are best masks (suc (suc (suc w))) k h e = absurd (omega arith)
+pub table_at : (won : List Best) (f : ℕ) → f < 4 → get_or (table_of won) f (pos 0) ≡ cost_at won f
+unfolding tab
+table_at won zero h = refl
+table_at won (suc zero) h = refl
+table_at won (suc (suc zero)) h = refl
+table_at won (suc (suc (suc zero))) h = refl
+table_at won (suc (suc (suc (suc f)))) h = absurd (omega arith)
 
-module _ (g : Graph) (b : List ℕ) where
+table_rest : (won : List Best) (f : ℕ) → 4 ≤ f → get_or (table_of won) f (pos 0) ≡ pos 0
+unfolding tab
+table_rest won zero h = absurd (omega arith)
+table_rest won (suc zero) h = absurd (omega arith)
+table_rest won (suc (suc zero)) h = absurd (omega arith)
+table_rest won (suc (suc (suc zero))) h = absurd (omega arith)
+table_rest won (suc (suc (suc (suc f)))) h = replicate_at (pos 0) 4 f
+
+module _ (c : ℕ → ℕ → ℤ) (count size : ℕ) (won : List Best) (w : Lowest c count size won) where
+  cost_small : (f : ℕ) → ∣ cost_at won f ∣ ≤ 184717953466368
+  cost_small f = go (dec_lt f size)
+    where
+      go : Dec (f < size) → ∣ cost_at won f ∣ ≤ 184717953466368
+      go (yes l) = (w.each f l).bounded
+      go (no d) = omega (arith, ap (λ (b : Best). ∣ b.cost ∣) (w.rest f (omega arith)))
+
+  pub table_small : Small (2 ^ 50) (table_of won)
+  table_small = record { each = at }
+    where
+      at : (f : ℕ) → ∣ get_or (table_of won) f (pos 0) ∣ ≤ 2 ^ 50
+      at f = go (dec_lt f 4)
+        where
+          go : Dec (f < 4) → ∣ get_or (table_of won) f (pos 0) ∣ ≤ 2 ^ 50
+          go (yes l) = omega (arith, ap ∣◌∣ (table_at won f l), cost_small f)
+          go (no d) = omega (arith, ap ∣◌∣ (table_rest won f (omega arith)))
+
+-- ---- one more step is held
+pub listed_more : (xs : List Step) (f : ℕ → rule.Step) (k : ℕ) → (xs ++ map hold (tab f k)) ++ hold (f k) ∷ [] ≡ xs ++ map hold (tab f (k + 1))
+unfolding tab
+listed_more xs f k = rw (add-one, map-append) (append_assoc xs (map hold (tab f k)) (hold (f k) ∷ []))
+
+-- ---- choices: past the last filling the mask is 0, and chooses 0
+choices_from : (w k : ℕ) (m best : ℕ → ℕ) → w ≤ 2 → ((f : ℕ) → f < 2 ^ w → m f ≡ best f) → ((f : ℕ) → 2 ^ w ≤ f → m f ≡ 0)
+    → bits_from (λ f. bit (m f) k) 0 4 ≡ bits_from (λ f. bit (best f) k) 0 (2 ^ w)
+unfolding bits_from
+choices_from zero k m best l h z = rw (h 0 (omega arith), z 1 (omega arith), z 2 (omega arith), z 3 (omega arith), bit_none k) (omega arith)
+choices_from (suc zero) k m best l h z = rw (h 0 (omega arith), h 1 (omega arith), z 2 (omega arith), z 3 (omega arith), bit_none k) (omega arith)
+choices_from (suc (suc zero)) k m best l h z = rw (h 0 (omega arith), h 1 (omega arith), h 2 (omega arith), h 3 (omega arith)) refl
+choices_from (suc (suc (suc w))) k m best l h z = absurd (omega arith)
+
+-- ---- the costs, the steps and the graph that is left are those of the rules
+module _ (g : Graph) (b near : List ℕ) (is : near ≡ boundary g b) (few : length near ≤ 2) (won : List Best) (w : Lowest (λ f. inner g near f b) (length b) (2 ^ length near) won) where
+  best_at : (f : ℕ) → f < 2 ^ length near → mask_at won f ≡ best_mask g b f
+  best_at f l = (w.each f l).lowest ∙ ap (λ (ns : List ℕ). cheapest (inner g ns f b) (2 ^ length b - 1)) is
+
+  pub cost_is : (f : ℕ) → f < 2 ^ length near → cost_at won f ≡ block_table g b f
+  cost_is f l = (w.each f l).costs ∙ ap₂ (λ (ns : List ℕ) (m : ℕ). inner g ns f b m) is (best_at f l)
+
+  choices_are : (k : ℕ) → bits_from (λ f. bit (mask_at won f) k) 0 4 ≡ bits_from (λ f. bit (best_mask g b f) k) 0 (2 ^ length (boundary g b))
+  choices_are k =
+      choices_from (length near) k (mask_at won) (best_mask g b) few best_at (λ f l. ap (λ (x : Best). x.mask) (w.rest f l))
+      ∙ ap (λ (ns : List ℕ). bits_from (λ f. bit (best_mask g b f) k) 0 (2 ^ length ns)) is
+
   abbrev step_at : ℕ → ℕ → rule.Step
   step_at k i = rule.step i (boundary g b) (bits_from (λ f. bit (best_mask g b f) k) 0 (2 ^ length (boundary g b)))
 
@@ -64,66 +119,60 @@ module _ (g : Graph) (b : List ℕ) where
       up : (k : ℕ) → step_at (suc j + k) (get_or is k 0) ≡ step_at (j + suc k) (get_or is k 0)
       up k = ap (λ (m : ℕ). step_at m (get_or is k 0)) (shift j k)
 
-  -- the steps of the rules are those that the code makes
-  pub steps_are : (near order masks : List ℕ) (w : ℕ) → near ≡ boundary g b → length (boundary g b) ≡ w → w ≤ 2 → masks ≡ tab (best_mask g b) (2 ^ w) ++ drop (2 ^ w) (replicate 4 0)
-      → ((k : ℕ) → k < length b → get_or order k 0 ≡ get_or b k 0) → tab (λ k. member_step near masks k (get_or order k 0)) (length b) ≡ block_steps g b 0 b
-  steps_are near order masks w en ew h em eo =
-      tab_same (λ k. member_step near masks k (get_or order k 0)) (λ k. step_at (0 + k) (get_or b k 0)) (length b) (λ k l. same k l) ∙ sym (steps_from_lem 0 b)
+  pub steps_are : tab (λ k. member_step near won k (get_or b k 0)) (length b) ≡ block_steps g b 0 b
+  steps_are =
+      tab_same (λ k. member_step near won k (get_or b k 0)) (λ k. step_at (0 + k) (get_or b k 0)) (length b) (λ k l. same k)
+      ∙ sym (steps_from_lem 0 b)
     where
-      same : (k : ℕ) → k < length b → member_step near masks k (get_or order k 0) ≡ step_at (0 + k) (get_or b k 0)
-      same k l =
-          ap₂ (λ (i : ℕ) (c : ℕ). rule.step i near c) (eo k l) (choices_are (best_mask g b) masks w k h em ∙ ap (λ (v : ℕ). bits_from (λ f. bit (best_mask g b f) k) 0 (2 ^ v)) (sym ew))
-          ∙ ap₂ (λ (ns : List ℕ) (m : ℕ). rule.step (get_or b k 0) ns (bits_from (λ f. bit (best_mask g b f) m) 0 (2 ^ length (boundary g b)))) en (sym (zero-add k))
+      same : (k : ℕ) → member_step near won k (get_or b k 0) ≡ step_at (0 + k) (get_or b k 0)
+      same k =
+          ap₂ (λ (ns : List ℕ) (c : ℕ). rule.step (get_or b k 0) ns c) is (choices_are k)
+          ∙ ap (λ (m : ℕ). step_at m (get_or b k 0)) (sym (zero-add k))
 
-  -- the minima that the code finds are those of the rules
-  pub lowest_are : (near : List ℕ) (count size : ℕ) (masks : List ℕ) (table : List ℤ) → near ≡ boundary g b → length b ≡ count
-      → Lowest (λ f. inner (weights g.linear g.edges) near f b) count size masks table
-      → (masks ≡ tab (best_mask g b) size ++ drop size (replicate 4 0)) × (table ≡ tab (block_table g b) size ++ drop size (replicate 8 (pos 0)))
-  lowest_are near count size masks table en ec w = (
-    w.winners ∙ ap (λ (t : List ℕ). t ++ drop size (replicate 4 0)) (tab_same (λ f. cheapest (own f) (2 ^ count - 1)) (best_mask g b) size (λ f l. best f)),
-    w.costs ∙ ap (λ (t : List ℤ). t ++ drop size (replicate 8 (pos 0))) (tab_same (λ f. own f (cheapest (own f) (2 ^ count - 1))) (block_table g b) size (λ f l. ap₂ (λ (c : ℕ → ℤ) (m : ℕ). c m) (costs f) (best f))),
-  )
-    where
-      own : ℕ → ℕ → ℤ
-      own f = inner (weights g.linear g.edges) near f b
+  -- the graph that is left
+  pub block_left : (h r : Graph) → h ≡ drop_all b g → r ≡ rule.absorb (λ f. get_or (table_of won) f (pos 0)) near h → r ≡ eliminate_block b g
+  unfolding eliminate_block
+  block_left h r e d =
+      d
+      ∙ ap₂ (λ (ns : List ℕ) (x : Graph). rule.absorb (λ f. get_or (table_of won) f (pos 0)) ns x) is e
+      ∙ absorb_same (λ f. get_or (table_of won) f (pos 0)) (block_table g b) (boundary g b) (drop_all b g) (subst (λ (ns : List ℕ). length ns ≤ 2) is few)
+      (λ f l. let m : f < 2 ^ length near = rw is l in table_at won f (omega (arith, pow_mono {j = 2} few)) ∙ cost_is f m)
 
-      costs : (f : ℕ) → own f ≡ inner g (boundary g b) f b
-      costs f = fun_ext (λ m. ap (λ (ns : List ℕ). inner (weights g.linear g.edges) ns f b m) en ∙ sym (weights_inner g (boundary g b) f b m))
-
-      best : (f : ℕ) → cheapest (own f) (2 ^ count - 1) ≡ best_mask g b f
-      best f = ap₂ (λ (c : ℕ → ℤ) (k : ℕ). cheapest c (2 ^ k - 1)) (costs f) (sym ec)
-
--- ---- what is dropped stays within the size rule
+-- ---- what is dropped stays within the size rule, and has as many decisions
 pub within_drop_all : (b : List ℕ) (g : Graph) → Within g → Within (drop_all b g)
 unfolding drop_all
 within_drop_all [] g w = w
 within_drop_all (i ∷ is) g w = within_drop_all is (drop_to 3 i g) (dropped_within 3 i g (drop_to 3 i g) refl w)
 
+pub drop_all_n : (b : List ℕ) (g : Graph) → (drop_all b g).n ≡ g.n
+unfolding drop_all drop_to
+drop_all_n [] g = refl
+drop_all_n (i ∷ is) g = drop_all_n is (drop_to 3 i g)
+
+-- ---- what each part of the elimination is owed
+module _ (g : Graph) (small : g.n ≤ 64) (b : List ℕ) (w : SmallBlock g b) where
+  pub members_listed : Listed b
+  members_listed = record { few = w.eight; low = λ k l. omega (arith, apart_at g.n b k w.apart l) }
+
+  module _ (near : List ℕ) (is : near ≡ boundary g b) where
+    pub near_narrow : length near ≤ 2
+    near_narrow = omega (arith, ap length is, w.narrow)
+
+    near_inside : Apart g.n near
+    near_inside = subst (Apart g.n) (sym is) (boundary_apart g b)
+
+    pub near_listed : Listed near
+    near_listed = record { few = omega (arith, near_narrow); low = λ k l. omega (arith, apart_at g.n near k near_inside l) }
+
+    pub near_apart : (h : Graph) → h ≡ drop_all b g → Apart h.n near
+    near_apart h e = subst (λ (n : ℕ). Apart n near) (sym (ap (λ (x : Graph). x.n) e ∙ drop_all_n b g)) near_inside
+
 -- ---- dropping in turn
-module _ (i : ℕ) (is js : List ℕ) (g h : Graph) where
-  pub drops_more : js ≡ i ∷ is → h ≡ drop_to 3 i g → drop_all js g ≡ drop_all is h
+module _ (b : List ℕ) (k : ℕ) (g h : Graph) where
+  pub drops_more : k < length b → h ≡ drop_to 3 (get_or b k 0) g → drop_all (drop k b) g ≡ drop_all (drop (k + 1) b) h
   unfolding drop_all
-  drops_more e d = rw (e, d)
+  drops_more l d = rw (add-one, drop-cons b k 0 l, d)
 
-pub drops_none : (is : List ℕ) (g : Graph) → is ≡ [] → drop_all is g ≡ g
+pub drops_none : (b : List ℕ) (k : ℕ) (g : Graph) → length b ≤ k → drop_all (drop k b) g ≡ g
 unfolding drop_all
-drops_none is g e = rw e
-
--- ---- one more of a list
-pub listed_more : {A : Type 0} (xs : List A) (f : ℕ → A) (k : ℕ) → (xs ++ tab f k) ++ f k ∷ [] ≡ xs ++ tab f (k + 1)
-unfolding tab
-listed_more xs f k = rw add-one (append_assoc xs (tab f k) (f k ∷ []))
-
--- ---- the minima in turn
-module _ (c : ℕ → ℕ → ℤ) (count : ℕ) where
-  pub lowest_none : Lowest c count 0 (replicate 4 0) (replicate 8 (pos 0))
-  unfolding tab
-  lowest_none = record { winners = refl; costs = refl; bounded = record { each = λ m. rw (replicate_at (pos 0) 8 m) (omega arith) } }
-
-  pub lowest_more : (f : ℕ) (masks : List ℕ) (table : List ℤ) (mask : ℕ) (cost v : ℤ) → f < 4 → Lowest c count f masks table → Minimum (c f) count mask cost → v ≡ cost
-      → Lowest c count (f + 1) (set masks f mask) (set table f v)
-  lowest_more f masks table mask cost v l w m e = record {
-    winners = fill_step (λ f. cheapest (c f) (2 ^ count - 1)) (replicate 4 0) masks f mask l w.winners m.lowest;
-    costs = fill_step (λ f. c f (cheapest (c f) (2 ^ count - 1))) (replicate 8 (pos 0)) table f v (omega arith) w.costs (e ∙ m.costs ∙ ap (c f) m.lowest);
-    bounded = small_set f v w.bounded (subst (λ (z : ℤ). ∣ z ∣ ≤ 184717953466368) (sym e) m.bounded);
-  }
+drops_none b k g h = ap (λ (js : List ℕ). drop_all js g) (nil_from_length (drop k b) (omega (arith, length-drop k b)))

@@ -1,31 +1,26 @@
 -- The size rule's bounds of the sums over listed decisions, of each sum whole and on the way.
 -- Assumes nothing.
-use Rattle.std.specs.Prelude.{◌≡◌, List, ℕ, ◌≤◌, length, take, drop, ℤ, ◌+ℤ◌}
-use Rattle.std.proofs.Common.{arith, length-take, length-drop}
+use Rattle.std.specs.Prelude.{◌≡◌, List, ℕ, ◌≤◌, length, ℤ, ◌+ℤ◌}
+use Rattle.std.proofs.Common.{arith}
 use Rattle.whole.specs.Parts.{∣◌∣}
 use Rattle.whole.specs.Words.{chosen}
 use Rattle.rules.specs.Graph.{Graph, row}
 use Rattle.rules.specs.Size.{Within}
 use Rattle.rules.specs.SmallBlock.{inner}
 use Rattle.size_laws.specs.SumSizes.{chosen_edges, chosen_part, inner_size, inner_part}
-use Rattle.block_minima.specs.Weights.{Listed}
+use Rattle.block_minima.specs.Weights.{weights, weights_inner}
 
-module _ (g : Graph) (v : Within g) {list : List ℕ} {count : ℕ} (w : Listed list count) where
-  left_few : (q : ℕ) → length (drop q (take count list)) ≤ 8
-  left_few q = omega (arith, length-drop q (take count list), length-take count list, w.few)
+module _ (g : Graph) (v : Within (weights g)) (list : List ℕ) (few : length list ≤ 8) where
+  pub pull_size : (i m : ℕ) → ∣ chosen (row g i list) m ∣ ≤ 17592186044416
+  pull_size i m = omega (arith, chosen_edges (weights g) v i list m)
 
-  pub pull_size : (i q m : ℕ) → ∣ chosen (row g i (drop q (take count list))) m ∣ ≤ 17592186044416
-  pull_size i q m = omega (arith, chosen_edges g v i (drop q (take count list)) m, left_few q)
+  -- what is left of the list is no longer
+  pub pull_part : (i : ℕ) (left : List ℕ) (m r : ℕ) (s : ℤ) → length left ≤ length list → s +ℤ chosen (row g i left) r ≡ chosen (row g i list) m → ∣ s ∣ ≤ 35184372088832
+  pull_part i left m r s l e = omega (arith, chosen_part (weights g) v i list left m r s e)
 
-  pub pull_part : (i p q m r : ℕ) (s : ℤ) → s +ℤ chosen (row g i (drop q (take count list))) r ≡ chosen (row g i (drop p (take count list))) m → ∣ s ∣ ≤ 35184372088832
-  pull_part i p q m r s e = omega (arith, chosen_part g v i (drop p (take count list)) (drop q (take count list)) m r s e, left_few p, left_few q)
+  module _ (out : List ℕ) (narrow : length out ≤ 2) where
+    pub cost_size : (f m : ℕ) → ∣ inner g out f list m ∣ ≤ 184717953466368
+    cost_size f m = rw (weights_inner g out f list m) (inner_size (weights g) v out list f m narrow few)
 
-  module _ (out : List ℕ) {width : ℕ} (narrow : width ≤ 2) where
-    out_few : length (take width out) ≤ 2
-    out_few = omega (arith, length-take width out, narrow)
-
-    pub cost_size : (f m : ℕ) → ∣ inner g (take width out) f (take count list) m ∣ ≤ 184717953466368
-    cost_size f m = inner_size g v (take width out) (take count list) f m out_few (left_few 0)
-
-    pub cost_part : (f p m r : ℕ) (s : ℤ) → s +ℤ inner g (take width out) f (drop p (take count list)) r ≡ inner g (take width out) f (take count list) m → ∣ s ∣ ≤ 369435906932736
-    cost_part f p m r s e = inner_part g v (take width out) (take count list) (drop p (take count list)) f m r s out_few (left_few 0) (left_few p) e
+    pub cost_part : (f : ℕ) (left : List ℕ) (m r : ℕ) (s : ℤ) → length left ≤ length list → s +ℤ inner g out f left r ≡ inner g out f list m → ∣ s ∣ ≤ 369435906932736
+    cost_part f left m r s l e = inner_part (weights g) v out list left f m r s narrow few (omega arith) (rw (weights_inner g out f left r, weights_inner g out f list m) at e)

@@ -1,7 +1,7 @@
 // The cheapest interior mask of a block, for a filling of its boundary.
 #![tactic(auto)]
 
-ghost use Rattle.std.specs.Prelude.{◌≡◌, ◌<◌, ◌≤◌, take, drop};
+ghost use Rattle.std.specs.Prelude.{◌≡◌, ◌<◌, ◌≤◌, length};
 ghost use Rattle.whole.specs.Parts.{∣◌∣};
 ghost use Rattle.whole.specs.Words.{chosen};
 ghost use Rattle.rules.specs.Graph.{row};
@@ -9,96 +9,64 @@ ghost use Rattle.rules.specs.Size.{Within};
 ghost use Rattle.rules.specs.SmallBlock.{inner};
 ghost use Rattle.block_minima.specs.Weights.{weights, Listed, Minimum};
 
-// The sum of i's edges to the decisions of a list, from a place on, that a mask chooses.
-fn pull(
-    linear: &[i64; 64],
-    edges: &[i64; 4096],
-    i: usize,
-    list: &[usize; 64],
-    from: usize,
-    count: usize,
-    mask: usize,
-) -> i64
-    requires { (Within (weights linear.now edges.now)) × (Listed list.now count) × (i < 64) × (from ≤ count) }
-    ensures { (result ≡ chosen (row (weights linear.now edges.now) i (drop from (take count list.now))) mask) × (∣ result ∣ ≤ 17592186044416) }
+use graph::Graph;
+
+// The sum of i's edges to the decisions of a list that a mask chooses.
+fn pull(g: &Graph, i: usize, list: &[usize], mask: usize) -> i64
+    requires { Within (weights g.now) × Listed list.now × (i < 64) }
+    ensures { (result ≡ chosen (row g.now i list.now) mask) × (∣ result ∣ ≤ 17592186044416) }
 {
-    let mut s: i64 = 0;
-    let mut q = from;
+    let mut sum = 0;
     let mut rest = mask;
-    while q < count {
+    for &j in list {
         if rest % 2 == 1 {
-            let j = list[q];
-            let w = edges[64 * i + j];
-            s = s + w;
+            sum += g.edge(i, j);
         }
-        rest = rest / 2;
-        q = q + 1;
+        rest /= 2;
     }
-    s
+    sum
 }
 
 // The members' own cost at an interior mask and a filling of the boundary.
-fn inner_cost(
-    linear: &[i64; 64],
-    edges: &[i64; 4096],
-    list: &[usize; 64],
-    count: usize,
-    out: &[usize; 64],
-    width: usize,
-    filling: usize,
-    mask: usize,
-) -> i64
-    requires { (Within (weights linear.now edges.now)) × (Listed list.now count) × (Listed out.now width) × (width ≤ 2) }
-    ensures { result ≡ inner (weights linear.now edges.now) (take width out.now) filling (take count list.now) mask }
+fn inner_cost(g: &Graph, members: &[usize], outside: &[usize], filling: usize, mask: usize) -> i64
+    requires { Within (weights g.now) × Listed members.now × Listed outside.now × (length outside.now ≤ 2) }
+    ensures { result ≡ inner g.now outside.now filling members.now mask }
 {
-    let mut s: i64 = 0;
-    let mut p: usize = 0;
+    let mut sum = 0;
     let mut rest = mask;
-    while p < count {
+    let mut left = members;
+    while let Some((&i, later)) = left.split_first() {
         if rest % 2 == 1 {
-            let i = list[p];
-            let a = linear[i];
-            let o = pull(linear, edges, i, out, 0, width, filling);
-            let w = pull(linear, edges, i, list, p + 1, count, rest / 2);
-            s = s + (a + o + w);
+            let out = pull(g, i, outside, filling);
+            let within = pull(g, i, later, rest / 2);
+            sum += g.linear(i) + out + within;
         }
-        rest = rest / 2;
-        p = p + 1;
+        rest /= 2;
+        left = later;
     }
-    s
+    sum
 }
 
 // A mask and what it costs.
-#[derive(Clone, Copy)]
+#[derive(Clone, Copy, Default)]
 pub struct Best {
     pub mask: usize,
     pub cost: i64,
 }
 
 // The lowest of the cheapest interior masks.
-pub fn cheapest_mask(
-    linear: &[i64; 64],
-    edges: &[i64; 4096],
-    list: &[usize; 64],
-    count: usize,
-    out: &[usize; 64],
-    width: usize,
-    filling: usize,
-) -> Best
-    requires { (Within (weights linear.now edges.now)) × (Listed list.now count) × (Listed out.now width) × (width ≤ 2) }
-    ensures { Minimum (inner (weights linear.now edges.now) (take width out.now) filling (take count list.now)) count result.mask result.cost }
+pub fn cheapest_mask(g: &Graph, members: &[usize], outside: &[usize], filling: usize) -> Best
+    requires { Within (weights g.now) × Listed members.now × Listed outside.now × (length outside.now ≤ 2) }
+    ensures { Minimum (inner g.now outside.now filling members.now) (length members.now) result.mask result.cost }
 {
-    let size: usize = 1 << count;
-    let mut best: usize = 0;
-    let mut least = inner_cost(linear, edges, list, count, out, width, filling, 0);
-    let mut m: usize = 1;
-    while m < size {
-        let c = inner_cost(linear, edges, list, count, out, width, filling, m);
-        if c < least {
-            least = c;
+    let mut best = 0;
+    let mut least = inner_cost(g, members, outside, filling, 0);
+    for m in 1..1 << members.len() {
+        let cost = inner_cost(g, members, outside, filling, m);
+        if cost < least {
+            least = cost;
             best = m;
         }
-        m = m + 1;
     }
     Best {
         mask: best,

@@ -1,11 +1,13 @@
 -- What a byte's mark tells is what the rules' tests of the byte tell.
 -- Assumes nothing.
-use mathlib.Core.Path.{◌≡◌, refl}
+use mathlib.Core.Path.{◌≡◌, refl, ap, ◌∙◌}
 use mathlib.Core.Bool.{false, not}
 use Prim.Native.Nat.{ℕ, zero, suc}
 use native.Mathlib.Omega.{arith}
 use lib.Dec.{leb, eqb}
 use borrow.Author.Tests.{lt-leb, ne_eqb, le-leb}
+use Rattle.std.specs.Prelude.{Option}
+use Rattle.broken.specs.declared.mark.Mark.{Mark}
 use Rattle.broken.specs.Marks.{mark_of, known, fixed, eliminated}
 
 abbrev four : ℕ → ℕ
@@ -35,3 +37,14 @@ mark_eliminated (suc zero) = refl
 mark_eliminated (suc (suc zero)) = refl
 mark_eliminated (suc (suc (suc zero))) = refl
 mark_eliminated (suc (suc (suc (suc b)))) = let t = past b in rw (t.0, t.2, t.3)
+
+-- the same of a byte whose mark is m
+module _ (b : ℕ) (m : Option Mark) (e : m ≡ mark_of b) where
+  pub known_is : known m ≡ leb b 3
+  known_is = ap known e ∙ mark_known b
+
+  pub fixed_is : not (fixed m) ≡ leb 2 b
+  fixed_is = ap (λ (m : Option Mark). not (fixed m)) e ∙ mark_fixed b
+
+  pub eliminated_is : eliminated m ≡ eqb b 3
+  eliminated_is = ap eliminated e ∙ mark_eliminated b

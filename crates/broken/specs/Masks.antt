@@ -1,7 +1,8 @@
 -- The tests of a record as the code asks them: of masks of decisions, one bit a decision.
 -- Assumes nothing.
-use Rattle.std.specs.Prelude.{◌≡◌, Bool, cond, ◌&&◌, ◌||◌, List, ℕ, ◌^◌, ◌≤◌, ltb, leb, eqb, get_or}
-use Rattle.whole.specs.Words.{bit, upto, all}
+use Rattle.std.specs.Prelude.{◌≡◌, Bool, true, cond, ◌&&◌, ◌||◌, List, ℕ, ◌^◌, ◌≤◌, ltb, leb, eqb, get_or, length}
+use Rattle.std.specs.List.{list_all}
+use Rattle.whole.specs.Words.{bit}
 use Rattle.rules.specs.Record.{choice_limit}
 use Rattle.rules.specs.declared.Step.{Step}
 use Rattle.rules.specs.declared.Record.{Record}
@@ -18,14 +19,18 @@ is_unfixed states n j = ltb j n && leb 2 (get_or states j 0)
 abbrev pub is_eliminated : List ℕ → ℕ → ℕ → Bool
 is_eliminated states n j = ltb j n && eqb (get_or states j 0) 3
 
+-- "states are 0 to 3"
+abbrev pub all_known : List ℕ → Bool
+all_known states = list_all (λ s. leb s 3) states
+
 -- the mask has those that pass, and no other
 abbrev pub Picks : ℕ → (ℕ → Bool) → Type 0
 Picks m p = (j : ℕ) → bit m j ≡ p j
 
-pub record Sorted (states : List ℕ) (n : ℕ) (s : States) : Type 0 where
-  pub known : s.known ≡ all (λ i. leb (get_or states i 0) 3) (upto n)
-  pub unfixed : Picks s.unfixed (is_unfixed states n)
-  pub eliminated : Picks s.eliminated (is_eliminated states n)
+pub record Sorted (states : List ℕ) (s : States) : Type 0 where
+  pub known : all_known states ≡ true
+  pub unfixed : Picks s.unfixed (is_unfixed states (length states))
+  pub eliminated : Picks s.eliminated (is_eliminated states (length states))
 
 -- what the walk along the steps is given
 pub record MasksOf (r : Record) (u e : ℕ) : Type 0 where

@@ -10,15 +10,16 @@ pub decimal_none : (k v : ℕ) → k ≡ 0 → decimal k v ≡ []
 unfolding decimal
 decimal_none k v h = rw h
 
-pub decimal_last : (k v : ℕ) → (k ≡ 0 → ⊥) → v < 10 → decimal k v ≡ (48 + v % 10) ∷ []
+pub decimal_parts : (k v : ℕ) → (k ≡ 0 → ⊥) → decimal k v ≡ cond (ltb v 10) [] (decimal (k - 1) (v / 10)) ++ ((48 + v % 10) ∷ [])
 unfolding decimal
-decimal_last zero v n h = absurd (n refl)
-decimal_last (suc k) v n h = rw (lt-ltb v 10 h)
+decimal_parts zero v n = absurd (n refl)
+decimal_parts (suc k) v n = rw (less_one k)
+
+pub decimal_last : (k v : ℕ) → (k ≡ 0 → ⊥) → v < 10 → decimal k v ≡ (48 + v % 10) ∷ []
+decimal_last k v n h = rw (decimal_parts k v n, lt-ltb v 10 h)
 
 pub decimal_more : (k v : ℕ) → (k ≡ 0 → ⊥) → 10 ≤ v → decimal k v ≡ decimal (k - 1) (v / 10) ++ ((48 + v % 10) ∷ [])
-unfolding decimal
-decimal_more zero v n h = absurd (n refl)
-decimal_more (suc k) v n h = rw (le-ltb v 10 h, less_one k)
+decimal_more k v n h = rw (decimal_parts k v n, le-ltb v 10 h)
 
 pub decimal_more_length : (k v : ℕ) → (k ≡ 0 → ⊥) → 10 ≤ v → length (decimal k v) ≡ length (decimal (k - 1) (v / 10)) + 1
 decimal_more_length k v n h = rw (decimal_more k v n h, length-append)

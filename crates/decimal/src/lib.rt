@@ -1,177 +1,43 @@
-// Numbers as decimal text: read from a place of a slice on, and written into a lent one.
+// Numbers as decimal text: read from the front of a slice, and written on a page.
 #![tactic(auto)]
 
-ghost use Rattle.std.specs.Prelude.{◌≡◌, ◌++◌, ℕ, ◌+◌, ◌*◌, ◌≤◌, leb, length, drop, ℤ, pos, neg_ℤ, nat_abs};
-ghost use Rattle.rules.specs.ReadText.{digit, number, weight};
-ghost use Rattle.rules.specs.WriteText.{decimal, shown, shown_z};
-ghost use Rattle.decimal.specs.Seen.{seen, seen_z, within};
-ghost use Rattle.decimal.specs.Puts.{Wrote};
+mod page;
+mod shown;
 
-// A number and where to read on.
-#[derive(Clone, Copy)]
-pub enum Number {
-    Value(u64, usize),
-    Malformed,
-}
+ghost use Rattle.std.specs.Prelude.{◌≡◌, ◌≤◌, IfSome};
+ghost use Rattle.rules.specs.ReadText.{number, weight};
+ghost use Rattle.decimal.specs.Seen.{seen};
 
-// A number with a sign and where to read on.
-#[derive(Clone, Copy)]
-pub enum Signed {
-    Value(i64, usize),
-    Malformed,
-}
+pub use page::Page;
+pub use shown::Shown;
 
-fn is_digit(b: u8) -> bool
-    ensures { result ≡ digit b }
+// The number at the front of the text, of any count of digits and at most `max`, with the byte `end` after it; and the text behind that.
+pub fn read_number(text: &[u8], max: u64, end: u8) -> Option<(u64, &[u8])>
+    ensures reads { seen result ≡ number max end text.now }
+    ensures small { IfSome result (λ r. r.0 ≤ max) }
 {
-    if b < 48 {
-        return false;
-    }
-    b <= 57
-}
-
-// Is v, with the digit d behind it, at most max?
-fn is_within(max: u64, v: u64, d: u64) -> bool
-    ensures { result ≡ leb (10 * v + d) max }
-{
-    if max < d {
-        return false;
-    }
-    if (max - d) / 10 < v {
-        return false;
-    }
-    true
-}
-
-// The number at `at`, of any count of digits and at most `max`, with the byte `end` after it.
-pub fn read_number(text: &[u8], at: usize, max: u64, end: u8) -> Number
-    ensures reads { seen text.now result ≡ number max end (drop at text.now) }
-    ensures small { within max result }
-{
-    if text.len() <= at {
-        return Number::Malformed;
-    }
-    if !is_digit(text[at]) {
-        return Number::Malformed;
-    }
-    let mut v = 0;
-    let mut i = at;
-    while i < text.len() {
-        let b = text[i];
-        if !is_digit(b) {
-            if b == end {
-                return Number::Value(v, i + 1);
-            }
-            return Number::Malformed;
+    let mut v = 0u64;
+    for (i, b) in text.iter().enumerate() {
+        if b.is_ascii_digit() {
+            v = v.checked_mul(10)?.checked_add(u64::from(*b - b'0'))?;
+        } else if i > 0 && v <= max && *b == end {
+            return Some((v, &text[i + 1..]));
+        } else {
+            return None;
         }
-        let d = whole::wide(b) - 48;
-        if !is_within(max, v, d) {
-            return Number::Malformed;
-        }
-        v = 10 * v + d;
-        i = i + 1;
     }
-    Number::Malformed
-}
-
-// v as it stands, and its opposite.
-pub fn plain(v: u64) -> i64
-    requires { v ≤ 9223372036854775807 }
-    ensures { result ≡ pos v }
-{
-    v as i64
-}
-
-pub fn opposite(v: u64) -> i64
-    requires { v ≤ 9223372036854775808 }
-    ensures { result ≡ neg_ℤ (pos v) }
-{
-    if v == 0 { 0 } else { -1 - plain(v - 1) }
+    None
 }
 
 // The same of a signed number of 64 bits; a minus may stand before it.
-pub fn read_signed(text: &[u8], at: usize, end: u8) -> Signed
-    ensures { seen_z text.now result ≡ weight end (drop at text.now) }
+pub fn read_signed(text: &[u8], end: u8) -> Option<(i64, &[u8])>
+    ensures { seen result ≡ weight end text.now }
 {
-    if text.len() <= at {
-        return Signed::Malformed;
-    }
-    if text[at] == 45 {
-        match read_number(text, at + 1, 9223372036854775808, end) {
-            Number::Value(v, next) => Signed::Value(opposite(v), next),
-            Number::Malformed => Signed::Malformed,
-        }
+    if let Some(rest) = text.strip_prefix(b"-") {
+        let (v, rest) = read_number(rest, i64::MIN.unsigned_abs(), end)?;
+        Some((v.wrapping_neg().cast_signed(), rest))
     } else {
-        match read_number(text, at, 9223372036854775807, end) {
-            Number::Value(v, next) => Signed::Value(plain(v), next),
-            Number::Malformed => Signed::Malformed,
-        }
-    }
-}
-
-// |x| of any i64, the least too.
-pub fn magnitude(x: i64) -> u64
-    ensures { result ≡ nat_abs x }
-{
-    if x < 0 {
-        let m = -(x + 1);
-        (m as u64) + 1
-    } else {
-        x as u64
-    }
-}
-
-// The bytes of s, into `out` from `at` on. The place after, here and below.
-pub fn put(out: &mut [u8], at: usize, s: &[u8]) -> usize
-    requires { at + length s.now ≤ length out.old }
-    ensures { Wrote out.old at s.now out.new result }
-{
-    let mut p = at;
-    let mut j = 0;
-    while j < s.len() {
-        out[p] = s[j];
-        p = p + 1;
-        j = j + 1;
-    }
-    p
-}
-
-// v in at most k digits.
-fn put_digits(out: &mut [u8], at: usize, v: u64, k: usize) -> usize
-    requires { at + length (decimal k v) ≤ length out.old }
-    ensures { Wrote out.old at (decimal k v) out.new result }
-{
-    if k == 0 {
-        return at;
-    }
-    let d = 48 + (v % 10) as u8;
-    if v < 10 {
-        out[at] = d;
-        return at + 1;
-    }
-    let p = put_digits(out, at, v / 10, k - 1);
-    out[p] = d;
-    p + 1
-}
-
-// The bytes of `label`, and v after them.
-pub fn put_number(out: &mut [u8], at: usize, label: &[u8], v: u64) -> usize
-    requires { at + (length label.now + length (shown v)) ≤ length out.old }
-    ensures { Wrote out.old at (label.now ++ shown v) out.new result }
-{
-    let p = put(out, at, label);
-    put_digits(out, p, v, 20)
-}
-
-pub fn put_signed(out: &mut [u8], at: usize, label: &[u8], w: i64) -> usize
-    requires { at + (length label.now + length (shown_z w)) ≤ length out.old }
-    ensures { Wrote out.old at (label.now ++ shown_z w) out.new result }
-{
-    let m = magnitude(w);
-    if w < 0 {
-        let p = put(out, at, label);
-        put_number(out, p, b"-", m)
-    } else {
-        put_number(out, at, label, m)
+        let (v, rest) = read_number(text, i64::MAX.unsigned_abs(), end)?;
+        Some((v.cast_signed(), rest))
     }
 }

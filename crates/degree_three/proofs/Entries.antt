@@ -25,6 +25,10 @@ pub record Difference (x y d : ℤ) : Type 0 where
 difference : {x y a b : ℤ} → x ≡ a → y ≡ b → ∣ a -ℤ b ∣ ≤ 2 ^ 53 → Difference x y (a -ℤ b)
 difference {x} {y} {a} {b} p q h = let f : SFits w64 (a -ℤ b) = fit (a -ℤ b) (omega arith) in record { fits = rw (p, q) f; back = rw (p, q) (rd f) }
 
+-- an entry is read as it is
+pub entry_back : (e : List ℤ) → Small (2 ^ 54) e → (m : ℕ) → kept (get_or e m (pos 0)) ≡ get_or e m (pos 0)
+entry_back e s m = read (get_or e m (pos 0)) (omega (arith, s.each m))
+
 module _ (t : List ℤ) (s : Small (2 ^ 50) t) where
   abbrev given : ℕ → ℤ
   given m = get_or t m (pos 0)

@@ -18,8 +18,9 @@ use Rattle.rules.specs.Run.{State, next, run, begin, ended}
 use Rattle.rules.specs.Size.{Within}
 use Rattle.rules.specs.Outcome.{outcome, units}
 use Rattle.rules.specs.Back.{grow_back, project}
-use Rattle.rules.specs.Refuse.{write_refusal, grow_refusal, project_refusal, grow_block_refusal, project_block_refusal}
-use Rattle.rules.specs.Call.{reduction, linear_after, edges_after, block_after, reading, plan_after, answer_after, block_plan_after, block_answer_after}
+use Rattle.rules.specs.Record.{record_in}
+use Rattle.rules.specs.Refuse.{read_refusal, write_refusal, grow_refusal, project_refusal, grow_block_refusal, project_block_refusal}
+use Rattle.rules.specs.Call.{reduction, linear_after, edges_after, block_after, plan_after, answer_after, block_plan_after, block_answer_after}
 use Rattle.rules.specs.declared.Reduction.{Reduction}
 use Rattle.cost_laws.specs.Cost.{when, cost_of, delta_of}
 use Rattle.cost_laws.specs.CostLaws.{cost}
@@ -116,10 +117,6 @@ pub record NeverCostlier (o : Objective) (r : Reduction) (linear edges : List �
   pub grown : CostsExactly o r linear edges (take r.counts.remaining front) second again
   pub never : cost_of_plan o again ≤ℤ cost_of_plan o plan
 
--- where `reduce` is lent outputs that hold l and e
-abbrev pub reduction_for : Objective → List ℤ → List ℤ → Reduction
-reduction_for o l e = reduction o (length l) (length e)
-
 -- `grow_back` with an output n long
 abbrev pub Grows : Objective → Reduction → List ℤ → List ℤ → Type 0
 Grows o r linear edges =
@@ -134,21 +131,22 @@ Projects o r linear edges =
     let answer = take r.counts.remaining front in
     NeverCostlier o r linear edges plan (project_refusal r.«record» plan (length out)) front (grow_refusal r.«record» answer (length out')) (plan_after r.«record» answer out')
 
+-- where `reduce` is lent outputs that hold l and e
 pub record ByCalls (o : Objective) (l e : List ℤ) : Type 0 where
-  pub grown : Grows o (reduction_for o l e) (linear_after o l e) (edges_after o l e)
-  pub projected : Projects o (reduction_for o l e) (linear_after o l e) (edges_after o l e)
+  pub grown : Grows o (reduction o) (linear_after o l e) (edges_after o l e)
+  pub projected : Projects o (reduction o) (linear_after o l e) (edges_after o l e)
 
 -- and from the record's block, where `write_record` is lent an output that holds b
-pub record ByBlock (o : Objective) (l e : List ℤ) (b : List ℕ) : Type 0 where
+pub record ByBlock (o : Objective) (b : List ℕ) : Type 0 where
   -- a reduction's record is never refused
-  pub written : write_refusal (reduction_for o l e).«record» (length b) ≡ 0
+  pub written : write_refusal (reduction o).«record» (length b) ≡ 0
   -- what is read is what was written
-  pub read : reading (block_after (reduction_for o l e).«record» b) ≡ record { answer = 0; «record» = (reduction_for o l e).«record» }
+  pub read : (read_refusal (block_after (reduction o).«record» b) ≡ 0) × (record_in (block_after (reduction o).«record» b) ≡ (reduction o).«record»)
   -- each call has the record's own number, and leaves what it leaves
-  pub grown_number : (answer : List ℕ) (out : ℕ) → grow_block_refusal (block_after (reduction_for o l e).«record» b) answer out ≡ grow_refusal (reduction_for o l e).«record» answer out
-  pub grown : (answer out : List ℕ) → block_plan_after (block_after (reduction_for o l e).«record» b) answer out ≡ plan_after (reduction_for o l e).«record» answer out
-  pub projected_number : (plan : List ℕ) (out : ℕ) → project_block_refusal (block_after (reduction_for o l e).«record» b) plan out ≡ project_refusal (reduction_for o l e).«record» plan out
-  pub projected : (plan out : List ℕ) → block_answer_after (block_after (reduction_for o l e).«record» b) plan out ≡ answer_after (reduction_for o l e).«record» plan out
+  pub grown_number : (answer : List ℕ) (out : ℕ) → grow_block_refusal (block_after (reduction o).«record» b) answer out ≡ grow_refusal (reduction o).«record» answer out
+  pub grown : (answer out : List ℕ) → block_plan_after (block_after (reduction o).«record» b) answer out ≡ plan_after (reduction o).«record» answer out
+  pub projected_number : (plan : List ℕ) (out : ℕ) → project_block_refusal (block_after (reduction o).«record» b) plan out ≡ project_refusal (reduction o).«record» plan out
+  pub projected : (plan out : List ℕ) → block_answer_after (block_after (reduction o).«record» b) plan out ≡ answer_after (reduction o).«record» plan out
 
 -- ---- the size rule, and the units
 -- the run at a budget of b

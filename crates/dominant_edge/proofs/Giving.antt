@@ -1,163 +1,128 @@
 -- The edges of a decision that has gone are given to another, turn by turn.
-use mathlib.Core.Path.{◌≡◌, refl, sym, ap, ◌∙◌, subst}
-use mathlib.Core.Bool.{Bool, true, false, cond, true≢false}
-use mathlib.Core.List.{List, [], ◌∷◌, ◌++◌}
-use mathlib.Core.Logic.{◌≢◌}
-use Prim.Native.Nat.{ℕ, ◌+◌, ◌*◌, ◌-◌, ◌^◌, ◌<◌, ◌≤◌}
-use native.Mathlib.Omega.{arith}
-use lib.Dec.{eqb}
-use lib.Bits.{bit_and}
-use lib.Count.{count_trailing_zeros}
-use lib.ListN.{get_or, set, replicate}
-use lib.IntN.{ℤ, pos, neg_ℤ, ◌+ℤ◌, ◌-ℤ◌}
-use mir.Syntax.{w64}
-use mir.Val.{SFits, to_z, of_z}
-use borrow.Author.Tests.{eq-eqb, ne_eqb}
+use Rattle.std.specs.Prelude.{◌≡◌, refl, Bool, true, false, cond, List, [], ◌∷◌, ◌≢◌, ℕ, ◌+◌, ◌*◌, ◌^◌, ◌<◌, ◌≤◌, eqb, get_or, ℤ, pos, neg_ℤ, ◌+ℤ◌, ◌-ℤ◌}
+use Rattle.std.specs.Int.{w64}
+use Rattle.std.proofs.Common.{SFits, of_z, to_z, sym, ap, ◌∙◌, subst, arith, get_or-set_other, eq-eqb, ne_eqb, true≢false}
 use Rattle.whole.specs.Parts.{∣◌∣}
 use Rattle.whole.specs.Ints.{ints, rd}
 use Rattle.whole.specs.Words.{mem, tab}
-use Rattle.whole.specs.Lists.{tab_at, padded}
+use Rattle.whole.specs.Lists.{tab_at}
 use Rattle.whole.specs.Cells.{cells_other}
-use Rattle.whole.specs.Masks.{these, these_below, these_apart, first_in, turn as taking}
-use Rattle.whole.specs.Members.{in_tail, apart_new}
-use Rattle.whole.specs.Pigeon.{Apart}
-use Rattle.whole.specs.Fits.{fit, read}
-use Rattle.size_laws.specs.Sizes.{neg_size, gain_fits}
+use Rattle.whole.specs.Different.{Apart}
+use Rattle.whole.specs.Members.{in_head, in_tail, apart_new}
+use Rattle.whole.specs.Masks.{these, these_below, these_apart}
+use Rattle.whole.specs.Fits.{fit, read, sum_fits}
+use Rattle.size_laws.specs.Sizes.{neg_size}
 use Rattle.rules.specs.Graph.{Graph, lin, edge, neighbours, add_constant, add_linear, add_edge, drop_to}
 use Rattle.rules.specs.Eliminate.{step}
 use Rattle.rules.specs.Record.{hold}
 use Rattle.rules.specs.declared.Step as held_step
 use Rattle.rules.specs.DominantEdge.{positive, turn, move, contract, contract_step}
-use Rattle.graph.specs.Held.{held, with_constant, Does, DoesEdges}
-use Rattle.graph.specs.HeldLaws.{linear_gain}
+use Rattle.rules.specs.Size.{Within}
 use Rattle.graph.specs.NearLaws.{mem_inside}
-use Rattle.graph.specs.Shows.{Shows}
+use Rattle.graph.specs.Small.{dropped_within}
 use Rattle.accepted_laws.specs.Small.{Small, small_tab}
-use Rattle.graph.specs.declared.Frame.{Frame}
-use Rattle.dominant_edge.specs.Answer.{WasNear, ShownOn}
+use Rattle.dominant_edge.specs.Answer.{WasNear, given, Gives}
 
--- ---- the two walks over the decision's neighbours
-abbrev pub turned_by : ℕ → ℕ → ℤ → Graph → Graph
-turned_by j t w g = add_edge j t (neg_ℤ w) (add_linear t w g)
+-- what one neighbour is given
+abbrev pub gift : Bool → ℕ → ℕ → ℤ → Graph → Graph
+gift turned j t w g = cond turned (add_edge j t (neg_ℤ w) (add_linear t w g)) (add_edge j t w g)
 
 module _ (old : Graph) (i j : ℕ) where
-  pub turn_cons : (t : ℕ) (js : List ℕ) (g : Graph) → turn old i j (t ∷ js) g ≡ turn old i j js (cond (eqb t j) g (turned_by j t (edge old i t) g))
-  unfolding turn
-  turn_cons t js g = refl
+  pub given_cons : (turned : Bool) (t : ℕ) (js : List ℕ) (g : Graph) → given turned old i j (t ∷ js) g ≡ given turned old i j js (cond (eqb t j) g (gift turned j t (edge old i t) g))
+  unfolding turn move
+  given_cons true t js g = refl
+  given_cons false t js g = refl
 
-  pub move_cons : (t : ℕ) (js : List ℕ) (g : Graph) → move old i j (t ∷ js) g ≡ move old i j js (cond (eqb t j) g (add_edge j t (edge old i t) g))
-  unfolding move
-  move_cons t js g = refl
+  pub given_none : (turned : Bool) (js : List ℕ) (g : Graph) → js ≡ [] → given turned old i j js g ≡ g
+  unfolding turn move
+  given_none true js g e = ap (λ (ks : List ℕ). turn old i j ks g) e
+  given_none false js g e = ap (λ (ks : List ℕ). move old i j ks g) e
 
-  pub turn_none : (js : List ℕ) (g : Graph) → js ≡ [] → turn old i j js g ≡ g
-  unfolding turn
-  turn_none js g e = ap (λ (ks : List ℕ). turn old i j ks g) e
+-- ---- what a gift leaves as it was
+module _ (turned : Bool) (j t : ℕ) (w : ℤ) (g : Graph) where
+  pub gift_n : (gift turned j t w g).n ≡ g.n
+  unfolding add_edge add_linear
+  gift_n = by turned
+    where
+      by : (b : Bool) → (gift b j t w g).n ≡ g.n
+      by true = refl
+      by false = refl
 
-  pub move_none : (js : List ℕ) (g : Graph) → js ≡ [] → move old i j js g ≡ g
-  unfolding move
-  move_none js g e = ap (λ (ks : List ℕ). move old i j ks g) e
+  pub gift_weight : (k : ℕ) → k ≢ t → lin (gift turned j t w g) k ≡ lin g k
+  unfolding add_edge add_linear
+  gift_weight k d = by turned
+    where
+      by : (b : Bool) → lin (gift b j t w g) k ≡ lin g k
+      by true = get_or-set_other g.linear t k (lin g t +ℤ w) (pos 0) d
+      by false = refl
 
--- ---- what both keep: those left are of the mask, none of their edges to j has changed, and the masks show the edges
-abbrev pub Alike : ℕ → List ℤ → List ℤ → ℕ → Type 0
-Alike j e₀ e t = (get_or e (64 * j + t) (pos 0) ≡ get_or e₀ (64 * j + t) (pos 0)) × (get_or e (64 * t + j) (pos 0) ≡ get_or e₀ (64 * t + j) (pos 0))
+  pub gift_edge : j < 64 → t < 64 → t ≢ j → (k : ℕ) → k < 64 → k ≢ t → edge (gift turned j t w g) j k ≡ edge g j k
+  unfolding add_edge add_linear
+  gift_edge hj ht d k hk e = by turned
+    where
+      by : (b : Bool) → edge (gift b j t w g) j k ≡ edge g j k
+      by true = cells_other g.edges (pos 0) j t j k _ _ hj ht hk (λ x. e) (λ x. absurd (d (sym x)))
+      by false = cells_other g.edges (pos 0) j t j k _ _ hj ht hk (λ x. e) (λ x. absurd (d (sym x)))
 
-pub record Keeps (row : List ℤ) (m j rest : ℕ) (e₀ : List ℤ) (ms₀ : List ℕ) (e : List ℤ) (ms : List ℕ) : Type 0 where
-  pub below : j < 64
-  pub weights : Small 2199023255552 row
-  pub small : Small 2199023255552 e₀
-  pub fits : rest < 2 ^ 64
+-- ---- what the walk keeps, where those of the mask `rest` are left: they are of the mask m, and neither their weights nor their edges to j have changed
+pub record Keeps (turned : Bool) (row : List ℤ) (m j : ℕ) (g₀ : Graph) (rest : ℕ) (g : Graph) : Type 0 where
   pub among : (t : ℕ) → mem t (these rest) ≡ true → mem t (these m) ≡ true
-  pub alike : (t : ℕ) → mem t (these rest) ≡ true → Alike j e₀ e t
-  pub shown : ShownOn m j e₀ ms₀ e ms
-
-pub keeps_begin : {row : List ℤ} {j : ℕ} (m : ℕ) (e : List ℤ) (ms : List ℕ) → j < 64 → Small 2199023255552 row → m < 2 ^ 64 → Small 2199023255552 e → Keeps row m j m e ms e ms
-keeps_begin m e ms b w h s = record {
-  below = b;
-  weights = w;
-  small = s;
-  fits = h;
-  among = λ t q. q;
-  alike = λ t q. (refl, refl);
-  shown = λ n p q r. r;
-}
+  pub as_many : g.n ≡ g₀.n
+  pub weights : (t : ℕ) → mem t (these rest) ≡ true → lin g t ≡ lin g₀ t
+  pub edges : (t : ℕ) → mem t (these rest) ≡ true → edge g j t ≡ edge g₀ j t
+  pub walk : (old : Graph) (i : ℕ) → WasNear row m old i → given turned old i j (these rest) g ≡ given turned old i j (these m) g₀
 
 -- a turn, at the lowest decision that is left
-module _ {row e₀ e : List ℤ} {m j rest : ℕ} {ms₀ ms : List ℕ} (k : Keeps row m j rest e₀ ms₀ e ms) (d : rest ≢ 0) where
-  abbrev pub at : ℕ
-  at = count_trailing_zeros 64 rest
+module _ {turned : Bool} {row : List ℤ} {m j : ℕ} {g₀ : Graph} {rest : ℕ} {g : Graph} (k : Keeps turned row m j g₀ rest g) (t left : ℕ) (step : these rest ≡ t ∷ these left) where
+  pub at_in : mem t (these rest) ≡ true
+  at_in = ap (mem t) step ∙ in_head t (these left)
 
-  abbrev pub left : ℕ
-  left = bit_and rest (rest - 1)
+  pub at_low : t < 64
+  at_low = these_below rest t at_in
 
-  abbrev pub weight : ℤ
-  weight = get_or row at (pos 0)
+  still : (u : ℕ) → mem u (these left) ≡ true → mem u (these rest) ≡ true
+  still u h = ap (mem u) step ∙ in_tail u t (these left) h
 
-  pub at_low : at < 64
-  at_low = (taking rest d k.fits).below
+  other : (u : ℕ) → mem u (these left) ≡ true → u ≢ t
+  other u h e = true≢false (sym h ∙ ap (λ (x : ℕ). mem x (these left)) e ∙ apart_new (subst (Apart 64) step (these_apart rest)))
 
-  pub at_in : mem at (these rest) ≡ true
-  at_in = first_in rest d k.fits
+  next : (b : Bool) → eqb t j ≡ b → (old : Graph) (i : ℕ) → WasNear row m old i → given turned old i j (these rest) g ≡ given turned old i j (these left) (cond b g (gift turned j t (get_or row t (pos 0)) g))
+  next b e old i near =
+      ap (λ (js : List ℕ). given turned old i j js g) step ∙ given_cons old i j turned t (these left) g
+      ∙ ap (λ (c : Bool). given turned old i j (these left) (cond c g (gift turned j t (edge old i t) g))) e
+      ∙ ap (λ (v : ℤ). given turned old i j (these left) (cond b g (gift turned j t v g))) (sym (near.weights t (k.among t at_in)))
 
-  at_among : mem at (these m) ≡ true
-  at_among = k.among at at_in
-
-  -- one that is left after it is another, and was left before
-  pub still : (t : ℕ) → mem t (these left) ≡ true → mem t (these rest) ≡ true
-  still t q = ap (mem t) (taking rest d k.fits).parts ∙ in_tail t at (these left) q
-
-  pub other : (t : ℕ) → mem t (these left) ≡ true → t ≢ at
-  other t q e = true≢false (sym q ∙ ap (λ (x : ℕ). mem x (these left)) e ∙ apart_new (subst (Apart 64) (taking rest d k.fits).parts (these_apart rest)))
-
-  pub weight_small : ∣ weight ∣ ≤ 2199023255552
-  weight_small = k.weights.each at
-
-  pub weight_read : to_z w64 (of_z w64 weight) ≡ weight
-  weight_read = read weight (omega (arith, weight_small))
-
-  pub edge_fits : (v : ℤ) → ∣ v ∣ ≤ 2199023255552 → (j < 64) × (at < 64) × SFits w64 (get_or e (64 * j + at) (pos 0) +ℤ v) × SFits w64 (get_or e (64 * at + j) (pos 0) +ℤ v)
-  edge_fits v h =
-      let same = k.alike at at_in in
-      (k.below, at_low, gain_fits e₀ e (64 * j + at) v (k.small.each (64 * j + at)) same.0 h (omega arith), gain_fits e₀ e (64 * at + j) v (k.small.each (64 * at + j)) same.1 h (omega arith))
-
-  keeps : (e' : List ℤ) (ms' : List ℕ) → ((t : ℕ) → t < 64 → t ≢ at → Alike j e e' t) → ((n : ℕ) → j < n → at < n → Shows n e ms → Shows n e' ms') → Keeps row m j left e₀ ms₀ e' ms'
-  keeps e' ms' s f = record {
-    below = k.below;
-    weights = k.weights;
-    small = k.small;
-    fits = (taking rest d k.fits).smaller;
-    among = λ t q. k.among t (still t q);
-    alike = λ t q.
-        let same = s t (these_below left t q) (other t q) in
-        let was = k.alike t (still t q) in
-        (same.0 ∙ was.0, same.1 ∙ was.1);
-    shown = λ n b q r. f n b (q at at_among) (k.shown n b q r);
+  -- j itself is passed by
+  pub keeps_same : t ≡ j → Keeps turned row m j g₀ left g
+  keeps_same e = record {
+    among = λ u h. k.among u (still u h);
+    as_many = k.as_many;
+    weights = λ u h. k.weights u (still u h);
+    edges = λ u h. k.edges u (still u h);
+    walk = λ old i near. sym (next true (eq-eqb t j e) old i near) ∙ k.walk old i near;
   }
 
-  pub keeps_same : Keeps row m j left e₀ ms₀ e ms
-  keeps_same = keeps e ms (λ t l n. (refl, refl)) (λ n b q r. r)
+  pub keeps_gift : j < 64 → t ≢ j → (g' : Graph) → g' ≡ gift turned j t (get_or row t (pos 0)) g → Keeps turned row m j g₀ left g'
+  keeps_gift low d g' is =
+      let w = get_or row t (pos 0) in
+      subst (λ (x : Graph). Keeps turned row m j g₀ left x) (sym is) (record {
+        among = λ u h. k.among u (still u h);
+        as_many = gift_n turned j t w g ∙ k.as_many;
+        weights = λ u h. gift_weight turned j t w g u (other u h) ∙ k.weights u (still u h);
+        edges = λ u h. gift_edge turned j t w g low at_low d u (these_below left u h) (other u h) ∙ k.edges u (still u h);
+        walk = λ old i near. sym (next false (ne_eqb t j d) old i near) ∙ k.walk old i near;
+      })
 
-  pub keeps_gain : (v : ℤ) (e' : List ℤ) (ms' : List ℕ)
-      → e' ≡ set (set e (64 * j + at) (get_or e (64 * j + at) (pos 0) +ℤ v)) (64 * at + j) (get_or e (64 * at + j) (pos 0) +ℤ v)
-      → ((n : ℕ) → j < n → at < n → Shows n e ms → Shows n e' ms') → Keeps row m j left e₀ ms₀ e' ms'
-  keeps_gain v e' ms' q f = keeps e' ms' (λ t l n. (same j t l (λ x. n) (λ x y. n (y ∙ x)), same t j k.below (λ x y. n (x ∙ y)) (λ x. absurd (n x)))) f
-    where
-      same : (p q : ℕ) → q < 64 → (p ≡ j → q ≢ at) → (p ≡ at → q ≢ j) → get_or e' (64 * p + q) (pos 0) ≡ get_or e (64 * p + q) (pos 0)
-      same p r l x y = rw q (cells_other e (pos 0) j at p r _ _ k.below at_low l x y)
+  -- the weight and the edge to j that gain something small
+  pub weight_fits : (v : ℤ) → ∣ lin g₀ t ∣ ≤ 1099511627776 → ∣ v ∣ ≤ 2199023255552 → SFits w64 (lin g t +ℤ v)
+  weight_fits v h l = subst (λ (x : ℤ). SFits w64 (x +ℤ v)) (sym (k.weights t at_in)) (sum_fits (lin g₀ t) v (omega arith) (omega arith))
 
-  -- of a walk by which each but j gives, by `give`, the edge that i had to it
-  module _ {old : Graph} {i : ℕ} (gone : WasNear row m old i) (walk : List ℕ → Graph → Graph) (give : ℕ → ℤ → Graph → Graph)
-      (cons : (t : ℕ) (js : List ℕ) (g : Graph) → walk (t ∷ js) g ≡ walk js (cond (eqb t j) g (give t (edge old i t) g))) (g : Graph) where
-    next : (b : Bool) → eqb at j ≡ b → walk (these rest) g ≡ walk (these left) (cond b g (give at (edge old i at) g))
-    next b q =
-        ap (λ (js : List ℕ). walk js g) (taking rest d k.fits).parts
-        ∙ cons at (these left) g
-        ∙ ap (λ (c : Bool). walk (these left) (cond c g (give at (edge old i at) g))) q
+  pub edge_fits : (v : ℤ) → Small 2199023255552 g₀.edges → ∣ v ∣ ≤ 2199023255552 → SFits w64 (edge g j t +ℤ v)
+  edge_fits v s l = subst (λ (x : ℤ). SFits w64 (x +ℤ v)) (sym (k.edges t at_in)) (sum_fits (edge g₀ j t) v (omega (arith, s.each (64 * j + t))) (omega arith))
 
-    pub gives : (r : Graph) → at ≢ j → give at weight g ≡ r → walk (these rest) g ≡ walk (these left) r
-    gives r n q = next false (ne_eqb at j n) ∙ ap (walk (these left)) (ap (λ (v : ℤ). give at v g) (sym (gone.weights at at_among)) ∙ q)
-
-    pub passes_by : at ≡ j → walk (these rest) g ≡ walk (these left) g
-    passes_by q = next true (eq-eqb at j q)
+pub keeps_end : {turned : Bool} {row : List ℤ} {m j : ℕ} {g₀ : Graph} {rest : ℕ} {g : Graph} → Keeps turned row m j g₀ rest g → these rest ≡ [] → Gives turned row m j g₀ g
+keeps_end {turned} {row} {m} {j} {g₀} {rest} {g} k none old i near =
+    sym (given_none old i j turned (these rest) g none) ∙ k.walk old i near ∙ ap (λ (js : List ℕ). given turned old i j js g₀) near.around
 
 -- a weight's negative, kept and read back
 module _ (w : ℤ) (h : ∣ w ∣ ≤ 2 ^ 59) where
@@ -171,46 +136,76 @@ module _ (w : ℤ) (h : ∣ w ∣ ≤ 2 ^ 59) where
   minus = rd minus_fits ∙ minus_is
 
 -- ---- the row of the decision, copied before it goes
-pub mask_inside : (g : Graph) (i m t : ℕ) → these m ≡ neighbours g i → mem t (these m) ≡ true → t < g.n
-mask_inside g i m t s q = mem_inside g i t (ap (mem t) (sym s) ∙ q)
-
-module _ (g : Graph) (i c : ℕ) (row : List ℤ) (r : row ≡ tab (λ j. edge g i j) g.n ++ replicate c (pos 0)) where
-  row_at : (k : ℕ) → get_or row k (pos 0) ≡ get_or (tab (λ j. edge g i j) g.n) k (pos 0)
-  row_at k = ap (λ (x : List ℤ). get_or x k (pos 0)) r ∙ padded (tab (λ j. edge g i j) g.n) (pos 0) c k
-
+module _ (g : Graph) (i : ℕ) (row : List ℤ) (r : row ≡ tab (λ j. edge g i j) 64) where
   pub row_small : {b : ℕ} → ((k : ℕ) → ∣ get_or g.edges k (pos 0) ∣ ≤ b) → Small b row
-  row_small {b} h = record { each = λ k. omega (arith, ap (λ (z : ℤ). ∣ z ∣) (row_at k), (small_tab {b = b} (λ j. edge g i j) g.n (λ j. h (64 * i + j))).each k) }
+  row_small {b} h = subst (Small b) (sym r) (small_tab {b = b} (λ j. edge g i j) 64 (λ j. h (64 * i + j)))
 
   pub row_gone : (m : ℕ) → these m ≡ neighbours g i → WasNear row m g i
   row_gone m s = record {
     around = s;
-    weights = λ t q. row_at t ∙ tab_at (λ j. edge g i j) g.n t (pos 0) (mask_inside g i m t s q);
+    weights = λ t q. ap (λ (x : List ℤ). get_or x t (pos 0)) r ∙ tab_at (λ j. edge g i j) 64 t (pos 0) (these_below m t q);
   }
 
+-- what is left when i is dropped, whatever its constant
+module _ (g : Graph) (i : ℕ) where
+  pub record Left (d : Graph) : Type 0 where
+    pub as_many : d.n ≡ g.n
+    pub linear : d.linear ≡ (drop_to 3 i g).linear
+    pub edges : d.edges ≡ (drop_to 3 i g).edges
+
+  pub left_dropped : (d : Graph) → d ≡ drop_to 3 i g → Left d
+  unfolding drop_to
+  left_dropped d e = rw e (record { as_many = refl; linear = refl; edges = refl })
+
+  pub left_constant : (v : ℤ) (d x : Graph) → Left d → x ≡ add_constant v d → Left x
+  unfolding add_constant
+  left_constant v d x l e = rw e (record { as_many = l.as_many; linear = l.linear; edges = l.edges })
+
+  -- j then gains v, and is given i's edges
+  module _ (j : ℕ) (s : Within g) (d : Graph) (l : Left d) (v : ℤ) where
+    within : Within (drop_to 3 i g)
+    within = dropped_within 3 i g (drop_to 3 i g) refl s
+
+    weight_small : (k : ℕ) → ∣ lin d k ∣ ≤ 1099511627776
+    weight_small k = omega (arith, ap (λ (x : List ℤ). ∣ get_or x k (pos 0) ∣) l.linear, within.linear k)
+
+    pub gain_fits : ∣ v ∣ ≤ 4398046511104 → SFits w64 (lin d j +ℤ v)
+    gain_fits h = sum_fits (lin d j) v (omega (arith, weight_small j)) (omega arith)
+
+    module _ (x : Graph) (is : x ≡ add_linear j v d) where
+      gained_n : x.n ≡ g.n
+      unfolding add_linear
+      gained_n = ap (λ (y : Graph). y.n) is ∙ l.as_many
+
+      gained_other : (k : ℕ) → k ≢ j → ∣ lin x k ∣ ≤ 1099511627776
+      unfolding add_linear
+      gained_other k n = omega (arith, ap (λ (y : Graph). ∣ lin y k ∣) is, ap ∣◌∣ (get_or-set_other d.linear j k (lin d j +ℤ v) (pos 0) n), weight_small k)
+
+      gained_edges : Small 2199023255552 x.edges
+      unfolding add_linear
+      gained_edges = subst (Small 2199023255552) (sym (ap (λ (y : Graph). y.edges) is ∙ l.edges)) (record { each = within.edges })
+
+      pub ready : (m : ℕ) (row : List ℤ) → j < 64 → j < g.n → these m ≡ neighbours g i → row ≡ tab (λ j. edge g i j) 64
+          → (j < 64) × (j < x.n) × ((t : ℕ) → mem t (these m) ≡ true → t < x.n) × Small 2199023255552 row × ((t : ℕ) → t ≢ j → ∣ lin x t ∣ ≤ 1099511627776) × Small 2199023255552 x.edges
+      ready m row low inside around r =
+          (low, omega (arith, gained_n), λ t q. omega (arith, gained_n, mem_inside g i t (ap (mem t) (sym around) ∙ q)), row_small g i row r s.edges, gained_other, gained_edges)
+
 -- ---- the whole substitution, from what the code's parts give
-module _ (g : Graph) (i j : ℕ) (d : Frame) (l l₁ e : List ℤ) (ss : List ℕ) (h : held d l e ss ≡ drop_to 3 i g) where
+module _ (g : Graph) (i j : ℕ) where
   abbrev turned : Graph
   turned = turn g i j (neighbours g i) (add_linear j (neg_ℤ (lin g i)) (add_constant (lin g i) (drop_to 3 i g)))
 
   abbrev moved : Graph
   moved = move g i j (neighbours g i) (add_linear j (lin g i +ℤ edge g i j) (drop_to 3 i g))
 
-  pub by_turning : (f : Frame) (l₂ e₂ : List ℤ) → positive g i j ≡ true → f ≡ with_constant d (d.constant +ℤ lin g i) → l₁ ≡ set l j (get_or l j (pos 0) +ℤ neg_ℤ (lin g i))
-      → Does (turn g i j (neighbours g i)) l₁ e l₂ e₂ → held f l₂ e₂ ss ≡ contract i j g
-  unfolding contract add_constant
-  by_turning f l₂ e₂ q p r s =
-      s f.n f.constant ss
-      ∙ ap (turn g i j (neighbours g i))
-      (ap (λ (x : Frame). held x l₁ e ss) p ∙ sym (linear_gain d.n (d.constant +ℤ lin g i) l e ss (neg_ℤ (lin g i)) l₁ j r) ∙ ap (λ (x : Graph). add_linear j (neg_ℤ (lin g i)) (add_constant (lin g i) x)) h)
-      ∙ sym (ap (λ (b : Bool). cond b turned moved) q)
-
-  pub by_moving : (e₂ : List ℤ) → positive g i j ≡ false → l₁ ≡ set l j (get_or l j (pos 0) +ℤ (lin g i +ℤ edge g i j)) → DoesEdges (move g i j (neighbours g i)) e e₂ → held d l₁ e₂ ss ≡ contract i j g
+  pub by_turning : (r : Graph) → positive g i j ≡ true → r ≡ turned → r ≡ contract i j g
   unfolding contract
-  by_moving e₂ q r s =
-      s d.n d.constant l₁ ss
-      ∙ ap (move g i j (neighbours g i)) (sym (linear_gain d.n d.constant l e ss (lin g i +ℤ edge g i j) l₁ j r) ∙ ap (add_linear j (lin g i +ℤ edge g i j)) h)
-      ∙ sym (ap (λ (b : Bool). cond b turned moved) q)
+  by_turning r q e = e ∙ sym (ap (λ (b : Bool). cond b turned moved) q)
 
-pub step_by : (g : Graph) (i j : ℕ) (t : Bool) (r : held_step.Step) → positive g i j ≡ t → r ≡ hold (step i (j ∷ []) (cond t 1 2)) → r ≡ hold (contract_step i j g)
-unfolding contract_step
-step_by g i j t r q h = h ∙ sym (ap (λ (b : Bool). hold (step i (j ∷ []) (cond b 1 2))) q)
+  pub by_moving : (r : Graph) → positive g i j ≡ false → r ≡ moved → r ≡ contract i j g
+  unfolding contract
+  by_moving r q e = e ∙ sym (ap (λ (b : Bool). cond b turned moved) q)
+
+  pub step_by : (t : Bool) (r : held_step.Step) → positive g i j ≡ t → r ≡ hold (step i (j ∷ []) (cond t 1 2)) → r ≡ hold (contract_step i j g)
+  unfolding contract_step
+  step_by t r q h = h ∙ sym (ap (λ (b : Bool). hold (step i (j ∷ []) (cond b 1 2))) q)

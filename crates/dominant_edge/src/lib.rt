@@ -1,20 +1,21 @@
 // Contracting a decision with a dominant neighbour.
 #![tactic(auto)]
 
-ghost use Rattle.std.specs.Prelude.{◌≡◌, ◌&&◌, ◌||◌, [], ◌∷◌, ◌≢◌, ℕ, ◌<◌, ◌≤◌, ◌^◌, get_or, pos};
-ghost use Rattle.std.specs.Int.Signed.{le_z};
+ghost use Rattle.std.specs.Prelude.{◌≡◌, true, [], ◌∷◌, ◌≢◌, ℕ, ◌<◌, ◌≤◌, ◌^◌, cond, get_or, pos};
+ghost use Rattle.whole.specs.Masks.{these};
 ghost use Rattle.whole.specs.Parts.{∣◌∣};
-ghost use Rattle.whole.specs.Words.{is_zero_z};
-ghost use Rattle.rules.specs.Eliminate.{step as playedStep};
+ghost use Rattle.whole.specs.Words.{mem};
+ghost use Rattle.accepted_laws.specs.Small.{Small};
+ghost use Rattle.rules.specs.Graph.{lin};
+ghost use Rattle.rules.specs.Eliminate.{step as played_step};
 ghost use Rattle.rules.specs.DominantEdge.{contract as contracted, contract_step};
 ghost use Rattle.rules.specs.Record.{hold};
 ghost use Rattle.rules.specs.Size.{Within};
-ghost use Rattle.graph.specs.Held.{held};
-ghost use Rattle.whole.specs.Masks.{these};
-ghost use Rattle.rules.specs.Graph.{neighbours};
-ghost use Rattle.graph.specs.Shows.{Shows};
-ghost use Rattle.accepted_laws.specs.Small.{Small};
-ghost use Rattle.dominant_edge.specs.Answer.{verdict_of, test_of, BoundsAre, Finds, Turns, Moves, ShownOn};
+ghost use Rattle.dominant_edge.specs.Answer.{bounds_at, test_of, dominant_of, Gives};
+
+use graph::Graph;
+use rules::Step;
+use whole::Members;
 
 // The least and the largest that a decision's delta can be.
 #[derive(Clone, Copy)]
@@ -23,190 +24,108 @@ pub struct Bounds {
     pub hi: i64,
 }
 
-#[derive(Clone, Copy)]
-pub struct Test {
-    pub passes: bool,
-    pub weak: bool,
-}
-
-// The dominant neighbour, and whether it is weak.
-#[derive(Clone, Copy)]
-pub enum Dominant {
-    Nothing,
-    Neighbour(usize, bool),
-}
-
 // ---- finding it
 
-// Of a decision i of weight a, whose neighbours are those of the mask m: lo is a plus the negative edges, hi is a plus the positive ones.
-pub fn bounds_of(edges: &[i64; 4096], a: i64, m: u64, i: usize) -> Bounds
-    requires { (i < 64) × (∣ a ∣ ≤ 1099511627776) × Small 2199023255552 edges.now }
-    ensures { BoundsAre result a m i edges.now × (∣ result.lo ∣ ≤ 2 ^ 50) × (∣ result.hi ∣ ≤ 2 ^ 50) }
+// lo is the decision's weight plus its negative edges, hi is it plus its positive ones.
+#[tactic(auto, using(graph::specs::MaskLaws::these_head))]
+pub fn bounds_of(g: &Graph, i: usize) -> Bounds
+    requires { (i < 64) × (∣ lin g.now i ∣ ≤ 1099511627776) × Small 2199023255552 g.now.edges }
+    ensures { (result ≡ bounds_at g.now i) × (∣ result.lo ∣ ≤ 2 ^ 50) × (∣ result.hi ∣ ≤ 2 ^ 50) }
 {
+    let a = g.linear(i);
     let mut lo = a;
     let mut hi = a;
-    let mut rest = m;
-    while rest != 0 {
-        let j = u64::trailing_zeros(rest) as usize;
-        let w = edges[64 * i + j];
-        let below = low_degree::smaller(w);
-        let above = w - below;
-        lo = lo + below;
-        hi = hi + above;
-        rest = rest & (rest - 1);
+    for j in Members(g.mask(i)) {
+        let w = g.edge(i, j);
+        let below = w.min(0);
+        lo += below;
+        hi += w - below;
     }
-    Bounds { lo: lo, hi: hi }
+    Bounds { lo, hi }
 }
 
-pub fn passes(upper: i64, lower: i64) -> bool
-    ensures { result ≡ (le_z upper (pos 0) && le_z (pos 0) lower) }
+// Whether an edge w dominates, and then whether it is weak: one of the two bounds is 0.
+pub fn test_edge(bounds: Bounds, w: i64) -> Option<bool>
+    requires { (∣ bounds.lo ∣ ≤ 2 ^ 50) × (∣ bounds.hi ∣ ≤ 2 ^ 50) × (∣ w ∣ ≤ 2199023255552) }
+    ensures { result ≡ test_of bounds w }
 {
-    upper <= 0 && lower >= 0
+    let upper = bounds.hi - w.abs();
+    let lower = bounds.lo + w.abs();
+    let weak = upper == 0 || lower == 0;
+    (upper <= 0 && lower >= 0).then_some(weak)
 }
 
-// Either bound is 0.
-pub fn is_weak(upper: i64, lower: i64) -> bool
-    ensures { result ≡ (is_zero_z upper || is_zero_z lower) }
+// Neighbours ascending, the first that passes, and whether it is weak.
+#[tactic(auto, using(graph::specs::MaskLaws::these_head))]
+pub fn dominant_neighbour(g: &Graph, i: usize) -> Option<(usize, bool)>
+    requires { (i < 64) × (∣ lin g.now i ∣ ≤ 1099511627776) × Small 2199023255552 g.now.edges }
+    ensures { result ≡ dominant_of g.now i }
 {
-    upper == 0 || lower == 0
-}
-
-pub fn verdict(upper: i64, lower: i64) -> Test
-    ensures { result ≡ verdict_of upper lower }
-{
-    let p = passes(upper, lower);
-    let w = is_weak(upper, lower);
-    Test { passes: p, weak: w }
-}
-
-// An edge w of the decision.
-pub fn test_edge(lo: i64, hi: i64, w: i64) -> Test
-    requires { (∣ lo ∣ ≤ 2 ^ 50) × (∣ hi ∣ ≤ 2 ^ 50) × (∣ w ∣ ≤ 2199023255552) }
-    ensures { result ≡ test_of lo hi w }
-{
-    if w > 0 {
-        return verdict(hi - w, lo + w);
-    }
-    verdict(hi + w, lo - w)
-}
-
-// Neighbours ascending, the first that passes.
-pub fn dominant_neighbour(edges: &[i64; 4096], a: i64, m: u64, i: usize) -> Dominant
-    requires { (i < 64) × (∣ a ∣ ≤ 1099511627776) × Small 2199023255552 edges.now }
-    ensures { Finds result a m i edges.now }
-{
-    let b = bounds_of(edges, a, m, i);
-    let lo = b.lo;
-    let hi = b.hi;
-    let mut rest = m;
-    while rest != 0 {
-        let j = u64::trailing_zeros(rest) as usize;
-        let w = edges[64 * i + j];
-        let t = test_edge(lo, hi, w);
-        if t.passes {
-            let weak = t.weak;
-            return Dominant::Neighbour(j, weak);
+    let bounds = bounds_of(g, i);
+    for j in Members(g.mask(i)) {
+        if let Some(weak) = test_edge(bounds, g.edge(i, j)) {
+            return Some((j, weak));
         }
-        rest = rest & (rest - 1);
     }
-    Dominant::Nothing
+    None
 }
 
 // ---- substituting
 
-// x of the decision becomes 1 − x of j: each other edge of its row goes to its neighbour, and its negative to the edge of that neighbour and j.
-pub fn turn_edges(
-    lin: &mut [i64; 64],
-    edges: &mut [i64; 4096],
-    masks: &mut [u64; 64],
-    row: &[i64; 64],
-    m: u64,
-    j: usize,
-)
-    requires { (j < 64) × Small 2199023255552 row.now × ((t : ℕ) → t ≢ j → ∣ get_or lin.old t (pos 0) ∣ ≤ 1099511627776) × Small 2199023255552 edges.old }
-    ensures { Turns row.now m j lin.old edges.old lin.new edges.new
-        × ShownOn m j edges.old masks.old edges.new masks.new }
+// The edges of a decision that has gone are given to j: where x of the decision becomes 1 − x of j, each other edge of its row goes
+// to its neighbour, and its negative to the edge of that neighbour and j; where it becomes x of j, to that edge alone.
+#[tactic(auto, using(graph::specs::MaskLaws::these_head))]
+fn give_edges(g: &mut Graph, row: &[i64; 64], m: u64, j: usize, turned: bool)
+    requires { (j < 64) × (j < g.old.n) × ((t : ℕ) → mem t (these m) ≡ true → t < g.old.n)
+        × Small 2199023255552 row.now × ((t : ℕ) → t ≢ j → ∣ lin g.old t ∣ ≤ 1099511627776) × Small 2199023255552 g.old.edges }
+    ensures { Gives turned row.now m j g.old g.new }
 {
-    let mut rest = m;
-    while rest != 0 {
-        let t = u64::trailing_zeros(rest) as usize;
+    for t in Members(m) {
         let w = row[t];
-        if t != j {
-            graph::add_linear(lin, t, w);
-            graph::add_edge(edges, masks, j, t, -w);
+        if t == j {
+            continue;
         }
-        rest = rest & (rest - 1);
-    }
-}
-
-// x of the decision becomes x of j: each other edge of its row goes to the edge of its neighbour and j.
-pub fn move_edges(edges: &mut [i64; 4096], masks: &mut [u64; 64], row: &[i64; 64], m: u64, j: usize)
-    requires { (j < 64) × Small 2199023255552 row.now × Small 2199023255552 edges.old }
-    ensures { Moves row.now m j edges.old edges.new
-        × ShownOn m j edges.old masks.old edges.new masks.new }
-{
-    let mut rest = m;
-    while rest != 0 {
-        let t = u64::trailing_zeros(rest) as usize;
-        let w = row[t];
-        if t != j {
-            graph::add_edge(edges, masks, j, t, w);
+        if turned {
+            g.add_linear(t, w);
+            g.add_edge(j, t, -w);
+        } else {
+            g.add_edge(j, t, w);
         }
-        rest = rest & (rest - 1);
     }
 }
 
 // A step over the one neighbour j.
-pub fn step_over(i: usize, j: usize, choices: u8) -> rules::Step
+pub fn step_over(i: usize, j: usize, choices: u8) -> Step
     requires { (i < 64) × (j < 64) }
-    ensures { result ≡ hold (playedStep i (j ∷ []) choices) }
+    ensures { result ≡ hold (played_step i (j ∷ []) choices) }
 {
-    rules::Step {
+    Step {
         decision: i as u8,
         degree: 1,
         first: j as u8,
-        second: 0,
-        third: 0,
-        choices: choices,
+        choices,
+        ..Step::default()
     }
 }
 
-// i, whose neighbours are those of the mask m, leaves, tied to j.
-pub fn contract(
-    lin: &mut [i64; 64],
-    edges: &mut [i64; 4096],
-    masks: &mut [u64; 64],
-    states: &mut [u8; 64],
-    f: graph::Frame,
-    m: u64,
-    i: usize,
-    j: usize,
-) -> low_degree::Reduced
-    requires { (i < 64) × (j < f.n) × (f.n ≤ 64) × Within (held f lin.old edges.old states.old) × (these m ≡ neighbours (held f lin.old edges.old states.old) i) × Shows f.n edges.old masks.old }
-    ensures { (held result.frame lin.new edges.new states.new ≡ contracted i j (held f lin.old edges.old states.old))
-        × Shows f.n edges.new masks.new
-        × (result.step ≡ hold (contract_step i j (held f lin.old edges.old states.old))) }
+// i leaves, tied to j.
+pub fn contract(g: &mut Graph, i: usize, j: usize) -> Step
+    requires { (i < 64) × (j < g.old.n) × Within g.old }
+    ensures { (g.new ≡ contracted i j g.old) × (result ≡ hold (contract_step i j g.old)) }
 {
-    let n = f.n;
-    let a = lin[i];
-    let w = edges[64 * i + j];
-    let row = graph::row_of(edges, i, n);
-    graph::drop_to(lin, edges, masks, states, 3, i);
+    g.known();
+    let a = g.linear(i);
+    let w = g.edge(i, j);
+    let m = g.mask(i);
+    let row = g.row(i);
+    g.drop_to(3, i);
     if w > 0 {
-        let left = graph::add_constant(f, a);
-        graph::add_linear(lin, j, -a);
-        turn_edges(lin, edges, masks, &row, m, j);
-        let step = step_over(i, j, 1);
-        return low_degree::Reduced {
-            frame: left,
-            step: step,
-        };
+        g.add_constant(a);
+        g.add_linear(j, -a);
+        give_edges(g, &row, m, j, true);
+        return step_over(i, j, 1);
     }
-    graph::add_linear(lin, j, a + w);
-    move_edges(edges, masks, &row, m, j);
-    let step = step_over(i, j, 2);
-    low_degree::Reduced {
-        frame: f,
-        step: step,
-    }
+    g.add_linear(j, a + w);
+    give_edges(g, &row, m, j, false);
+    step_over(i, j, 2)
 }

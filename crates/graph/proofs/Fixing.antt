@@ -1,66 +1,74 @@
--- Fixing one decision: what the code's parts make of the graph, and its mass.
-use mathlib.Core.Path.{◌≡◌, ap, ◌∙◌}
-use mathlib.Core.List.{List, ◌++◌}
-use Prim.Native.Nat.{ℕ, ◌+◌, ◌*◌, ◌-◌, ◌<◌, ◌≤◌}
-use native.Mathlib.Omega.{arith}
-use lib.ListN.{length, get_or, set, replicate, get_or-append}
-use lib.IntN.{ℤ, pos, nat_abs, ◌+ℤ◌}
-use Rattle.whole.specs.Words.{tab}
-use Rattle.whole.specs.Lists.{tab_at, length_tab}
-use Rattle.rules.specs.Graph.{Graph, graph, edge, lin, neighbours, add_constant, drop_to, clear}
+-- A decision is fixed: the mass, and the loop over its neighbours.
+use Rattle.std.proofs.Common.{◌≡◌, refl, sym, ap, arith, Bool, true, false, cond, List, [], ◌∷◌, map, set, ℕ, zero, suc, ◌+◌, ◌*◌, ◌<◌, ◌≤◌, ℤ, pos, nat_abs, ◌+ℤ◌, not, SFits}
+use Rattle.std.specs.Int.{w64}
+use Rattle.whole.specs.Words.{is_zero_z, from, those}
+use Rattle.whole.specs.Lists.{tab_map}
+use Rattle.rules.specs.Graph.{Graph, edge, lin, row, neighbours, add_constant, add_linear, drop_to, clear}
 use Rattle.rules.specs.Fixing.{spread, fix}
 use Rattle.rules.specs.Objective.{weight_of}
-use Rattle.accepted_laws.specs.Mass.{mass, weight_at, weight_set, weight_append, weight_zeros, weight_clear, abs_add}
-use Rattle.graph.specs.Held.{Spreads}
-use Rattle.graph.specs.HeldLaws.{dropped_n}
+use Rattle.accepted_laws.specs.Mass.{mass, weight_at, weight_set, weight_gain, weight_clear, abs_add}
+use Rattle.graph.proofs.Laws.{mass_fits}
 
--- a decision is dropped
-module _ (s i : ℕ) (g d : Graph) (h : d ≡ drop_to s i g) (hi : i < 64) (hn : g.n ≤ 64) where
-  pub drop_n : d.n ≡ g.n
-  drop_n = dropped_n s i g d h
+-- ---- what is dropped, and what is gained
+weight_cleared : (i n : ℕ) (e : List ℤ) → weight_of (clear i n e) ≤ weight_of e
+unfolding clear
+weight_cleared i zero e = omega arith
+weight_cleared i (suc j) e =
+    omega (arith, weight_cleared i j e, weight_set (clear i j e) (64 * i + j) (pos 0), weight_set (set (clear i j e) (64 * i + j) (pos 0)) (64 * j + i) (pos 0))
 
-  pub drop_constant : d.constant ≡ g.constant
-  unfolding drop_to
-  drop_constant = ap (λ (x : Graph). x.constant) h
+pub dropped_mass : (s i : ℕ) (g : Graph) → mass (drop_to s i g) ≤ mass g
+unfolding drop_to
+dropped_mass s i g = omega (arith, weight_set g.linear i (pos 0), weight_cleared i g.n g.edges)
 
-  -- with the row, and the weight, that have gone
-  pub drop_mass : weight_of d.linear + weight_of d.edges + nat_abs (lin g i) + weight_of (tab (λ j. get_or g.edges (64 * i + j) (pos 0)) g.n) ≤ weight_of g.linear + weight_of g.edges
-  unfolding drop_to
-  drop_mass =
-      let l : d.linear ≡ set g.linear i (pos 0) = ap (λ (x : Graph). x.linear) h in
-      let e : d.edges ≡ clear i g.n g.edges = ap (λ (x : Graph). x.edges) h in
-      omega (arith, ap weight_of l, ap weight_of e, weight_set g.linear i (pos 0), weight_clear i g.n g.edges hi hn)
+pub linear_mass : (k : ℕ) (v : ℤ) (g : Graph) → mass (add_linear k v g) ≤ mass g + nat_abs v
+unfolding add_linear
+linear_mass k v g = omega (arith, weight_gain g.linear k v)
 
-pub fix_zero : (i v : ℕ) (g d : Graph) → v ≡ 0 → d ≡ drop_to 0 i g → i < 64 → g.n ≤ 64 → (d ≡ fix i v g) × (d.n ≡ g.n) × (mass d ≤ mass g)
-unfolding fix
-fix_zero i v g d z h hi hn =
-    (rw z h, drop_n 0 i g d h hi hn, omega (arith, drop_mass 0 i g d h hi hn, ap nat_abs (drop_constant 0 i g d h hi hn)))
+pub fix_sum : (s i : ℕ) (g : Graph) → mass g ≤ 2199023255552 → SFits w64 ((drop_to s i g).constant +ℤ lin g i)
+unfolding drop_to
+fix_sum s i g h = mass_fits g.constant (lin g i) (omega (arith, weight_at g.linear i))
 
-module _ (i : ℕ) (g d : Graph) (row : List ℤ) (h : d ≡ drop_to 1 i g) (hi : i < 64) (hn : g.n ≤ 64) (r : row ≡ tab (λ j. get_or g.edges (64 * i + j) (pos 0)) g.n ++ replicate (64 - g.n) (pos 0)) where
-  row_mass : weight_of row ≡ weight_of (tab (λ j. get_or g.edges (64 * i + j) (pos 0)) g.n)
-  row_mass =
-      let t = tab (λ j. get_or g.edges (64 * i + j) (pos 0)) g.n in
-      let z = replicate (64 - g.n) (pos 0) in
-      omega (arith, ap weight_of r, weight_append t z, weight_zeros (64 - g.n))
+weight_those : (f : ℕ → ℤ) (p : ℕ → Bool) (xs : List ℕ) → weight_of (map f (those p xs)) ≤ weight_of (map f xs)
+unfolding those weight_of
+weight_those f p [] = omega arith
+weight_those f p (x ∷ xs) = by (p x) (weight_those f p xs)
+  where
+    by : (b : Bool) → weight_of (map f (those p xs)) ≤ weight_of (map f xs) → weight_of (map f (cond b (x ∷ those p xs) (those p xs))) ≤ nat_abs (f x) + weight_of (map f xs)
+    by true h = omega arith
+    by false h = omega arith
 
-  row_at : (j : ℕ) → j < g.n → get_or row j (pos 0) ≡ edge g i j
-  row_at j k =
-      let f : ℕ → ℤ = λ j. get_or g.edges (64 * i + j) (pos 0) in
-      let l : j < length (tab f g.n) = rw length_tab (omega arith) in
-      rw r (get_or-append (tab f g.n) (replicate (64 - g.n) (pos 0)) (pos 0) j l ∙ tab_at f g.n j (pos 0) k)
+-- ---- the loop: js are to gain yet
+pub record Spreading (i : ℕ) (g x : Graph) (js : List ℕ) : Type 0 where
+  pub goes : fix i 1 g ≡ spread g i js x
+  pub light : mass x + weight_of (row g i js) ≤ mass g
 
-  -- what the code asks on the way
-  pub fix_room : mass g ≤ 2199023255552 → weight_of d.linear + weight_of row ≤ 2199023255552
-  fix_room m = omega (arith, row_mass, drop_mass 1 i g d h hi hn)
+module _ (i : ℕ) (g : Graph) where
+  begin_mass : i < 64 → g.n ≤ 64 → mass (add_constant (lin g i) (drop_to 1 i g)) + weight_of (row g i (neighbours g i)) ≤ mass g
+  unfolding add_constant drop_to neighbours
+  begin_mass hi hn =
+      let f : ℕ → ℤ = λ j. edge g i j in
+      omega (
+        arith,
+        abs_add g.constant (lin g i),
+        weight_set g.linear i (pos 0),
+        weight_clear i g.n g.edges hi hn,
+        weight_those f (λ j. not (is_zero_z (edge g i j))) (from 0 g.n),
+        ap weight_of (tab_map f g.n),
+      )
 
-  pub fix_sum : mass g ≤ 2199023255552 → nat_abs d.constant + nat_abs (lin g i) ≤ 4398046511104
-  fix_sum m = omega (arith, weight_at g.linear i, ap nat_abs (drop_constant 1 i g d h hi hn))
+  pub spread_begin : (x : Graph) (js : List ℕ) → x ≡ add_constant (lin g i) (drop_to 1 i g) → js ≡ neighbours g i → i < 64 → g.n ≤ 64 → Spreading i g x js
+  unfolding fix
+  spread_begin x js e n hi hn = rw (e, n) (record { goes = refl; light = begin_mass hi hn })
 
-  pub fix_one : (v : ℕ) (x : ℤ) (l : List ℤ) → v ≡ 1 → x ≡ d.constant +ℤ lin g i → Spreads row g.n d.linear l → weight_of l ≤ weight_of d.linear + weight_of row
-      → (graph d.n x l d.edges d.states ≡ fix i v g) × (d.n ≡ g.n) × (mass (graph d.n x l d.edges d.states) ≤ mass g)
-  unfolding fix neighbours add_constant
-  fix_one v x l e b s m = (
-    rw e (s g i d.n x d.edges d.states row_at ∙ ap (spread g i (neighbours g i)) (rw b (ap (add_constant (lin g i)) h))),
-    drop_n 1 i g d h hi hn,
-    omega (arith, row_mass, drop_mass 1 i g d h hi hn, ap nat_abs b, abs_add d.constant (lin g i), ap nat_abs (drop_constant 1 i g d h hi hn)),
-  )
+  module _ (x : Graph) (j : ℕ) (js : List ℕ) (s : Spreading i g x (j ∷ js)) (v : ℤ) (is : v ≡ edge g i j) where
+    pub spread_fits : mass g ≤ 2199023255552 → SFits w64 (lin x j +ℤ v)
+    unfolding weight_of
+    spread_fits h = rw is (mass_fits (lin x j) (edge g i j) (omega (arith, s.light, weight_at x.linear j)))
+
+    pub spread_turn : (y : Graph) → y ≡ add_linear j v x → Spreading i g y js
+    unfolding spread weight_of
+    spread_turn y e = rw (e, is) (record { goes = s.goes; light = omega (arith, s.light, linear_mass j (edge g i j) x) })
+
+  pub spread_end : (x : Graph) → Spreading i g x [] → (x ≡ fix i 1 g) × (mass x ≤ mass g)
+  unfolding spread
+  spread_end x s = (sym s.goes, omega (arith, s.light))

@@ -1,7 +1,7 @@
 -- A decision's edges cleared one by one, as its mask shows them.
 use mathlib.Core.Path.{◌≡◌, refl, sym, ap, ap₂, ◌∙◌, subst}
 use mathlib.Core.Bool.{Bool, true, false, cond, ◌||◌}
-use mathlib.Core.List.{List}
+use mathlib.Core.List.{List, [], ◌∷◌}
 use mathlib.Core.Logic.{◌≢◌}
 use Prim.Native.Nat.{ℕ, zero, suc, ◌+◌, ◌*◌, ◌-◌, ◌^◌, ◌<◌, ◌≤◌}
 use native.Mathlib.Omega.{arith}
@@ -10,7 +10,7 @@ use native.Mathlib.Decide.{ℕ_discrete, dec_lt}
 use lib.Dec.{eqb}
 use lib.Bits.{bit_and}
 use lib.Count.{count_trailing_zeros}
-use lib.ListN.{length, get_or, set, length-set}
+use lib.ListN.{length, get_or, set, drop, length-set}
 use lib.Seq.{get_or-set_same, get_or-set_other, set-get_or, set-set, set_comm}
 use lib.IntN.{ℤ, pos}
 use borrow.Author.Tests.{eqb-true}
@@ -18,7 +18,8 @@ use Rattle.whole.specs.Words.{bit, mem, is_zero_z}
 use Rattle.whole.specs.Tests.{cases, clash, on_not}
 use Rattle.whole.specs.Members.{apart_new}
 use Rattle.whole.specs.Pigeon.{Apart}
-use Rattle.whole.specs.Masks.{these, these_apart, mem_these, first_in, bit_none, turn}
+use Rattle.whole.specs.Masks.{these, these_apart, these_end, mem_these, first_in, bit_none, turn}
+use Rattle.graph.specs.MaskLaws.{these_empty}
 use Rattle.whole.specs.Cmp.{zero_of}
 use Rattle.rules.specs.Graph.{clear}
 use Rattle.graph.specs.Shows.{Shows}
@@ -121,7 +122,7 @@ module _ (rest : ℕ) (d : rest ≢ 0) (low : rest < 2 ^ 64) where
     twice : set (set m i rest) i others ≡ set m i others
     twice = set-set m i rest others
 
-    pub wipe_turn : Shows n less (set (set m first r) i others) × (clear i n less ≡ clear i n e)
+    wipe_turn : Shows n less (set (set m first r) i others) × (clear i n less ≡ clear i n e)
     wipe_turn = (go (ℕ_discrete i first), clear_done i first e n inside)
       where
         go : Dec (i ≡ first) → Shows n less (set (set m first r) i others)
@@ -136,12 +137,43 @@ module _ (rest : ℕ) (d : rest ≢ 0) (low : rest < 2 ^ 64) where
             (λ y. ap (bit others) (eqb-true k i y ∙ a) ∙ off_first ∙ sym (ap (λ (c : Bool). cond c false (bit (get_or (set (set m i rest) i others) first 0) k)) y))
             (λ y. ap (λ (z : ℕ). bit z k) (sym same) ∙ sym (ap (λ (c : Bool). cond c false (bit (get_or (set (set m i rest) i others) first 0) k)) y))))
 
-pub wipe_end : (n : ℕ) (e : List ℤ) (m : List ℕ) (i rest : ℕ) → Shows n e (set m i rest) → i < 64 → n ≤ 64 → rest ≡ 0 → (e ≡ clear i n e) × Shows n e (set m i 0)
+wipe_end : (n : ℕ) (e : List ℤ) (m : List ℕ) (i rest : ℕ) → Shows n e (set m i rest) → i < 64 → n ≤ 64 → rest ≡ 0 → (e ≡ clear i n e) × Shows n e (set m i 0)
 wipe_end n e m i rest s hi hn z =
     let long : length m ≡ 64 = sym (length-set m i rest) ∙ s.long in
     let own : get_or (set m i rest) i 0 ≡ 0 = get_or-set_same m i rest 0 (omega arith) ∙ z in
     let bare : (q : ℕ) → q < n → edge_cell e i q ≡ pos 0 = λ q h. no_edge (edge_cell e i q) (sym (s.bits i q hi (omega arith)) ∙ ap (λ (x : ℕ). bit x q) own ∙ bit_none q) in
     (sym (clear_none i e n (λ q h. (bare q h, s.both q i (omega arith) hi ∙ bare q h))), subst (λ (x : ℕ). Shows n e (set m i x)) z s)
 
-pub wipe_begin : (n : ℕ) (e : List ℤ) (m : List ℕ) (i rest : ℕ) → Shows n e m → rest ≡ get_or m i 0 → Shows n e (set m i rest)
-wipe_begin n e m i rest s h = subst (Shows n e) (sym (ap (set m i) h ∙ set-get_or m i 0)) s
+-- ---- the loop: js are to be wiped yet, and i's own mask is as if it had them alone
+pub record Wiping (i : ℕ) (e₀ : List ℤ) (m₀ : List ℕ) (e : List ℤ) (m js : List ℕ) : Type 0 where
+  pub rest : ℕ
+  pub fits : rest < 2 ^ 64
+  pub left : these rest ≡ js
+  pub shows : (n : ℕ) → n ≤ 64 → Shows n e₀ m₀ → Shows n e (set m i rest) × (clear i n e ≡ clear i n e₀)
+
+pub wiping_begin : (i : ℕ) (e : List ℤ) (m : List ℕ) → get_or m i 0 < 2 ^ 64 → Wiping i e m e m (these (get_or m i 0))
+wiping_begin i e m f = record { rest = get_or m i 0; fits = f; left = refl; shows = λ n h s. (subst (Shows n e) (sym (set-get_or m i 0)) s, refl) }
+
+module _ (i : ℕ) (e₀ e : List ℤ) (m₀ m : List ℕ) (hi : i < 64) where
+  pub wiping_turn : (j : ℕ) (js : List ℕ) (r : ℕ) → Wiping i e₀ m₀ e m (j ∷ js) → r < 2 ^ 64 → Marked (get_or m j 0) i (pos 0) r
+      → Wiping i e₀ m₀ (set (set e (64 * i + j) (pos 0)) (64 * j + i) (pos 0)) (set m j r) js
+  wiping_turn j js r w f k =
+      let some : w.rest ≢ 0 = λ z. absurd (omega (arith, ap length (sym w.left ∙ these_end w.rest z))) in
+      let t = turn w.rest some w.fits in
+      let first : count_trailing_zeros 64 w.rest ≡ j = ap (λ (l : List ℕ). get_or l 0 0) (sym t.parts ∙ w.left) in
+      subst (λ (j : ℕ). Marked (get_or m j 0) i (pos 0) r → Wiping i e₀ m₀ (set (set e (64 * i + j) (pos 0)) (64 * j + i) (pos 0)) (set m j r) js) first
+      (λ k. record {
+        rest = bit_and w.rest (w.rest - 1);
+        fits = t.smaller;
+        left = ap (drop 1) (sym t.parts ∙ w.left);
+        shows = λ n h s.
+            let g = w.shows n h s in
+            let u = wipe_turn w.rest some w.fits n e m i r g.0 hi f k in
+            (u.0, u.1 ∙ g.1);
+      }) k
+
+  pub wiping_end : Wiping i e₀ m₀ e m [] → (n : ℕ) → n ≤ 64 → Shows n e₀ m₀ → (e ≡ clear i n e₀) × Shows n e (set m i 0)
+  wiping_end w n h s =
+      let g = w.shows n h s in
+      let u = wipe_end n e m i w.rest g.0 hi h (these_empty w.rest w.fits w.left) in
+      (u.0 ∙ g.1, u.1)

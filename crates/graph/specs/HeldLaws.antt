@@ -1,13 +1,7 @@
 -- What an update of an array is to the graph.
 -- Assumes nothing.
 use Rattle.std.specs.Prelude.{◌≡◌, List, ℕ, ◌+◌, ◌*◌, get_or, set, ℤ, pos, ◌+ℤ◌}
-use Rattle.std.proofs.Common.{ap}
-use Rattle.rules.specs.Graph.{Graph, graph, add_linear, add_edge, drop_to}
-
--- a decision is dropped: the others are as many
-pub dropped_n : (s i : ℕ) (g d : Graph) → d ≡ drop_to s i g → d.n ≡ g.n
-unfolding drop_to
-dropped_n s i g d h = ap (λ (x : Graph). x.n) h
+use Rattle.rules.specs.Graph.{graph, add_linear, add_edge}
 
 module _ (n : ℕ) (c : ℤ) (l e : List ℤ) (ss : List ℕ) (v : ℤ) where
   pub linear_gain : (l₁ : List ℤ) (k : ℕ) → l₁ ≡ set l k (get_or l k (pos 0) +ℤ v) → add_linear k v (graph n c l e ss) ≡ graph n c l₁ e ss

@@ -1,7 +1,9 @@
-pub mod Held
 pub mod Near
+pub mod MaskLaws
 pub mod Shows
+pub mod Whole
 pub mod NearLaws
 pub mod ShowsLaws
 pub mod Small
+pub mod UpdatesLaws
 pub mod HeldLaws

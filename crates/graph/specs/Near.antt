@@ -1,7 +1,7 @@
 -- A decision's neighbours and its edges to them, as the code holds them.
 -- Assumes nothing.
-use Rattle.std.specs.Prelude.{◌≡◌, List, [], ◌∷◌, map, ℕ, ◌+◌, ◌*◌, length, get_or, ℤ, pos}
-use Rattle.rules.specs.Graph.{Graph, graph, neighbours}
+use Rattle.std.specs.Prelude.{List, [], ◌∷◌, map, ℕ, ◌+◌, ◌*◌, length, get_or, ℤ, pos}
+use Rattle.rules.specs.Graph.{Graph, neighbours}
 use Rattle.graph.specs.declared.Near.{Near}
 
 -- the first three of a list; z where there are fewer
@@ -14,7 +14,3 @@ near_among e i js = record { list = three js 0; weights = three (map (λ j. get_
 
 unfoldable pub near_at : Graph → ℕ → Near
 near_at g i = near_among g.edges i (neighbours g i)
-
--- what is near i in these edges, whatever else the graph has
-abbrev pub Nears : Near → List ℤ → ℕ → ℕ → Type 0
-Nears r e n i = (c : ℤ) (l : List ℤ) (ss : List ℕ) → r ≡ near_at (graph n c l e ss) i

@@ -1,28 +1,29 @@
 // The working graph: the atomic updates, building it from the lists, fixing.
 #![tactic(auto)]
 
-ghost use Rattle.std.specs.Prelude.{◌≡◌, ℕ, ◌+◌, ◌*◌, ◌-◌, ◌<◌, ◌≤◌, cond, not, List, ◌++◌, length, get_or, set, drop, replicate, eqb, ℤ, pos, nat_abs, ◌+ℤ◌};
+ghost use Rattle.std.specs.Prelude.{◌≡◌, ◌+◌, ◌*◌, ◌<◌, ◌≤◌, length, get_or, nat_abs, ◌+ℤ◌};
 ghost use Rattle.std.specs.Int.{w64};
 ghost use Rattle.std.proofs.Common.{SFits};
-ghost use Rattle.whole.specs.Words.{tab, bit, is_zero_z};
+ghost use Rattle.whole.specs.Words.{tab};
 ghost use Rattle.whole.specs.Masks.{these};
-ghost use Rattle.rules.specs.Graph.{graph, add_term, add_terms, clear as cleared, drop_to, no_edges};
-ghost use Rattle.rules.specs.Fixing.{fix as fixing, fix_all, start as started};
+ghost use Rattle.rules.specs.Graph.{lin, edge, active, neighbours, degree, add_constant, add_linear, add_edge, add_term, add_terms, drop_to};
+ghost use Rattle.rules.specs.Fixing.{fix, fix_all, start};
+ghost use Rattle.rules.specs.Given.{of_lists};
+ghost use Rattle.rules.specs.Objective.{weight_of};
 ghost use Rattle.accepted_laws.specs.Accept.{Fit};
-ghost use Rattle.rules.specs.Objective.{objective, weight_of};
 ghost use Rattle.accepted_laws.specs.Mass.{mass};
-ghost use Rattle.graph.specs.Held.{held, with_constant, no_linear, no_states, Below, Does, Spreads};
-ghost use Rattle.graph.specs.Near.{Nears};
-ghost use Rattle.graph.specs.Shows.{Shows, no_masks};
+ghost use Rattle.graph.specs.Near.{near_at};
+ghost use Rattle.graph.specs.Shows.{Shows};
+ghost use Rattle.graph.specs.Whole.{Whole};
 
-// What a graph has besides its lists.
-#[derive(Clone, Copy)]
-pub struct Frame {
-    pub n: usize,
-    pub constant: i64,
-}
+mod shown;
+
+use rules::Objective;
+use std::marker::Model;
+use whole::Members;
 
 // How many neighbours a decision has, and of the first three, ascending, which they are and its edges to them; zeros where there are fewer.
+// Kept: arrays with a count beside them, since the table of eight masks reads all three places, zeros past the count too.
 #[derive(Clone, Copy)]
 pub struct Near {
     pub list: [u8; 3],
@@ -30,317 +31,248 @@ pub struct Near {
     pub count: usize,
 }
 
-// ---- the atomic updates
-
-pub fn add_constant(f: Frame, v: i64) -> Frame
-    requires { SFits w64 (f.constant +ℤ v) }
-    ensures { result ≡ with_constant f (f.constant +ℤ v) }
-{
-    let mut g = f;
-    g.constant = f.constant + v;
-    g
+// The graph of 01, with a mask of its neighbours for each decision.
+#[derive(Drop)]
+pub struct Graph {
+    n: usize,
+    constant: i64,
+    linear: [i64; 64],
+    edges: [i64; 4096],
+    masks: [u64; 64],
+    states: [u8; 64],
 }
 
-pub fn add_linear(lin: &mut [i64; 64], k: usize, v: i64)
-    requires { (k < 64) × SFits w64 (get_or lin.old k (pos 0) +ℤ v) }
-    ensures { lin.new ≡ set lin.old k (get_or lin.old k (pos 0) +ℤ v) }
-{
-    let w = lin[k] + v;
-    lin[k] = w;
-}
+impl Model for Graph {
+    ghost use Rattle.std.specs.Prelude.{◌≤◌};
+    ghost use Rattle.rules.specs.Graph as rule;
+    ghost use Rattle.graph.specs.Shows.{Shows};
 
-// The mask of i. (A call's result is known to fit its type; an element that is read is not.)
-pub fn mask_at(masks: &[u64; 64], i: usize) -> u64
-    requires { i < 64 }
-    ensures { result ≡ get_or masks.now i 0 }
-{
-    masks[i]
-}
+    ghost Value = { rule.Graph };
 
-// A mask with decision j in it where the weight w is an edge, and without j where it is none.
-pub fn marked(m: u64, j: usize, w: i64) -> u64
-    requires { j < 64 }
-    ensures { (k : ℕ) → k < 64 → bit result k ≡ cond (eqb k j) (not (is_zero_z w)) (bit m k) }
-{
-    let one: u64 = 1 << j;
-    if w != 0 {
-        return m | one;
-    }
-    whole::without(m, one)
-}
+    ghost view = { λ g. rule.graph g.n g.constant g.linear g.edges g.states };
 
-// An edge gains v, and the masks of the two show whether it is one.
-pub fn add_edge(edges: &mut [i64; 4096], masks: &mut [u64; 64], k: usize, l: usize, v: i64)
-    requires { (k < 64) × (l < 64) × SFits w64 (get_or edges.old (64 * k + l) (pos 0) +ℤ v) × SFits w64 (get_or edges.old (64 * l + k) (pos 0) +ℤ v) }
-    ensures { (edges.new ≡ set (set edges.old (64 * k + l) (get_or edges.old (64 * k + l) (pos 0) +ℤ v)) (64 * l + k) (get_or edges.old (64 * l + k) (pos 0) +ℤ v))
-        × ((n : ℕ) → k < n → l < n → Shows n edges.old masks.old → Shows n edges.new masks.new) }
-{
-    let a = 64 * k + l;
-    let b = 64 * l + k;
-    let x = edges[a] + v;
-    let y = edges[b] + v;
-    edges[a] = x;
-    edges[b] = y;
-    masks[k] = marked(masks[k], l, x);
-    masks[l] = marked(masks[l], k, y);
-}
-
-// i's edges are none, both ways round: those that its mask shows.
-pub fn wipe(edges: &mut [i64; 4096], masks: &mut [u64; 64], i: usize)
-    requires { i < 64 }
-    ensures { (n : ℕ) → n ≤ 64 → Shows n edges.old masks.old
-        → (edges.new ≡ cleared i n edges.old) × Shows n edges.new masks.new }
-{
-    let mut rest = mask_at(masks, i);
-    while rest != 0 {
-        let j = u64::trailing_zeros(rest) as usize;
-        edges[64 * i + j] = 0;
-        edges[64 * j + i] = 0;
-        masks[j] = marked(masks[j], i, 0);
-        rest = rest & (rest - 1);
-    }
-    masks[i] = 0;
+    ghost invariant = { λ g. (g.n ≤ 64) × Shows g.n g.edges g.masks };
 }
 
 // ---- reading
+impl Graph {
+    pub fn n(&self) -> usize
+        ensures { result ≡ self.now.n }
+    {
+        self.n
+    }
 
-pub fn neighbours(edges: &[i64; 4096], masks: &[u64; 64], i: usize) -> Near
-    requires { i < 64 }
-    ensures { (n : ℕ) → n ≤ 64 → Shows n edges.now masks.now → Nears result edges.now n i }
-{
-    let mut r = Near {
-        list: [0; 3],
-        weights: [0; 3],
-        count: 0,
-    };
-    let mut rest = mask_at(masks, i);
-    while rest != 0 {
-        let at = r.count;
-        if at < 3 {
-            let j = u64::trailing_zeros(rest) as usize;
-            let w = edges[64 * i + j];
-            r.list[at] = j as u8;
-            r.weights[at] = w;
+    pub fn constant(&self) -> i64
+        ensures { result ≡ self.now.constant }
+    {
+        self.constant
+    }
+
+    pub fn linear(&self, i: usize) -> i64
+        requires { i < 64 }
+        ensures { result ≡ lin self.now i }
+    {
+        self.linear[i]
+    }
+
+    pub fn edge(&self, i: usize, j: usize) -> i64
+        requires { (i < 64) × (j < 64) }
+        ensures { result ≡ edge self.now i j }
+    {
+        self.edges[64 * i + j]
+    }
+
+    pub fn state(&self, i: usize) -> u8
+        requires { i < 64 }
+        ensures { result ≡ get_or self.now.states i 0 }
+    {
+        self.states[i]
+    }
+
+    pub fn is_active(&self, i: usize) -> bool
+        requires { i < 64 }
+        ensures { result ≡ active self.now i }
+    {
+        self.states[i] == 2
+    }
+
+    pub fn states(&self) -> &[u8; 64]
+        ensures { result.now ≡ self.now.states }
+    {
+        &self.states
+    }
+
+    // Its neighbours, a bit for each.
+    pub fn mask(&self, i: usize) -> u64
+        requires { i < 64 }
+        ensures { these result ≡ neighbours self.now i }
+    {
+        self.masks[i]
+    }
+
+    pub fn masks(&self) -> &[u64; 64]
+        ensures { Shows self.now.n self.now.edges result.now }
+    {
+        &self.masks
+    }
+
+    // What a graph's lists are like, which they do not say by themselves.
+    pub fn known(&self)
+        ensures { Whole self.now }
+    {
+        let _ = &self.n;
+    }
+
+    #[tactic(auto, using(crate::specs::MaskLaws::these_head))]
+    pub fn neighbours(&self, i: usize) -> Near
+        requires { i < 64 }
+        ensures { result ≡ near_at self.now i }
+    {
+        let mut near = Near {
+            list: [0; 3],
+            weights: [0; 3],
+            count: 0,
+        };
+        for j in Members(self.masks[i]) {
+            if near.count < 3 {
+                near.list[near.count] = j as u8;
+                near.weights[near.count] = self.edges[64 * i + j];
+            }
+            near.count += 1;
         }
-        r.count = at + 1;
-        rest = rest & (rest - 1);
+        near
     }
-    r
-}
 
-// How many neighbours i has: the bits of its mask.
-pub fn degree(masks: &[u64; 64], i: usize) -> usize
-    requires { i < 64 }
-    ensures { result ≡ length (these (get_or masks.now i 0)) }
-{
-    let mut d: usize = 0;
-    let mut rest = mask_at(masks, i);
-    while rest != 0 {
-        d = d + 1;
-        rest = rest & (rest - 1);
+    pub fn degree(&self, i: usize) -> usize
+        requires { i < 64 }
+        ensures { result ≡ degree self.now i }
+    {
+        self.masks[i].count_ones() as usize
     }
-    d
-}
 
-// ---- building
-
-pub fn load(lin: &mut [i64; 64], weights: &[i64])
-    requires { (length weights.now ≤ 64) × (length lin.old ≡ 64) }
-    ensures { lin.new ≡ weights.now ++ drop (length weights.now) lin.old }
-{
-    let mut k: usize = 0;
-    while k < weights.len() {
-        let w = weights[k];
-        lin[k] = w;
-        k = k + 1;
+    // i's edges, one for each decision.
+    pub fn row(&self, i: usize) -> [i64; 64]
+        requires { i < 64 }
+        ensures { result ≡ tab (λ j. edge self.now i j) 64 }
+    {
+        let mut row = [0; 64];
+        row.copy_from_slice(&self.edges[64 * i..64 * i + 64]);
+        row
     }
 }
 
-pub fn add_term(
-    lin: &mut [i64; 64],
-    edges: &mut [i64; 4096],
-    masks: &mut [u64; 64],
-    i: usize,
-    j: usize,
-    w: i64,
-)
-    requires { (i < 64) × (j < 64) × (weight_of lin.old + weight_of edges.old + 2 * nat_abs w ≤ 2199023255552) }
-    ensures { Does (add_term i j w) lin.old edges.old lin.new edges.new
-        × (weight_of lin.new + weight_of edges.new ≤ weight_of lin.old + weight_of edges.old + 2 * nat_abs w)
-        × ((n : ℕ) → i < n → j < n → Shows n edges.old masks.old → Shows n edges.new masks.new) }
-{
-    if i == j {
-        add_linear(lin, i, w);
-    } else {
-        add_edge(edges, masks, i, j, w);
+// ---- the atomic updates
+impl Graph {
+    pub fn add_constant(&mut self, v: i64)
+        requires { SFits w64 (self.old.constant +ℤ v) }
+        ensures { self.new ≡ add_constant v self.old }
+    {
+        self.constant += v;
     }
-}
 
-pub fn add_terms(
-    lin: &mut [i64; 64],
-    edges: &mut [i64; 4096],
-    masks: &mut [u64; 64],
-    firsts: &[u32],
-    seconds: &[u32],
-    term_weights: &[i64],
-)
-    requires { (length seconds.now ≡ length firsts.now) × (length term_weights.now ≡ length firsts.now) × Below 64 firsts.now × Below 64 seconds.now
-        × (weight_of lin.old + weight_of edges.old + 2 * weight_of term_weights.now ≤ 2199023255552) }
-    ensures { Does (add_terms firsts.now seconds.now term_weights.now) lin.old edges.old lin.new edges.new
-        × (weight_of lin.new + weight_of edges.new ≤ 2199023255552)
-        × ((n : ℕ) → Below n firsts.now → Below n seconds.now → Shows n edges.old masks.old → Shows n edges.new masks.new) }
-{
-    let mut k: usize = 0;
-    while k < firsts.len() {
-        let i = firsts[k] as usize;
-        let j = seconds[k] as usize;
-        let w = term_weights[k];
-        add_term(lin, edges, masks, i, j, w);
-        k = k + 1;
+    pub fn add_linear(&mut self, k: usize, v: i64)
+        requires { (k < 64) × SFits w64 (lin self.old k +ℤ v) }
+        ensures { self.new ≡ add_linear k v self.old }
+    {
+        self.linear[k] += v;
     }
-}
 
-// The first n decisions are active.
-pub fn opening(states: &mut [u8; 64], n: usize)
-    requires { (n ≤ 64) × (states.old ≡ no_states) }
-    ensures { states.new ≡ replicate n 2 ++ replicate (64 - n) 0 }
-{
-    let mut k: usize = 0;
-    while k < n {
-        states[k] = 2;
-        k = k + 1;
+    pub fn add_edge(&mut self, k: usize, l: usize, v: i64)
+        requires { (k < self.old.n) × (l < self.old.n) × SFits w64 (edge self.old k l +ℤ v) }
+        ensures { self.new ≡ add_edge k l v self.old }
+    {
+        shown::gain(&mut self.edges, &mut self.masks, k, l, v);
+    }
+
+    // i leaves with a state, and with its weight and its edges.
+    pub fn drop_to(&mut self, s: u8, i: usize)
+        requires { i < 64 }
+        ensures { self.new ≡ drop_to s i self.old }
+    {
+        self.linear[i] = 0;
+        shown::wipe(&mut self.edges, &mut self.masks, i);
+        self.states[i] = s;
     }
 }
 
 // ---- fixing
-
-// i's edges to the decisions below n, then zeros.
-pub fn row_of(edges: &[i64; 4096], i: usize, n: usize) -> [i64; 64]
-    requires { (i < 64) × (n ≤ 64) }
-    ensures { result ≡ tab (λ j. get_or edges.now (64 * i + j) (pos 0)) n ++ replicate (64 - n) (pos 0) }
-{
-    let mut row = [0i64; 64];
-    let mut j: usize = 0;
-    while j < n {
-        let w = edges[64 * i + j];
-        row[j] = w;
-        j = j + 1;
-    }
-    row
-}
-
-// Each edge of the row goes to the neighbour's weight.
-pub fn spread(lin: &mut [i64; 64], row: &[i64; 64], n: usize)
-    requires { (n ≤ 64) × (weight_of lin.old + weight_of row.now ≤ 2199023255552) }
-    ensures { Spreads row.now n lin.old lin.new
-        × (weight_of lin.new ≤ weight_of lin.old + weight_of row.now) }
-{
-    let mut j: usize = 0;
-    while j < n {
-        let w = row[j];
-        if w != 0 {
-            add_linear(lin, j, w);
+impl Graph {
+    // i is fixed to v.
+    #[tactic(auto, using(crate::specs::MaskLaws::these_head))]
+    pub fn fix(&mut self, i: usize, v: u8)
+        requires { (i < 64) × (v < 2) × (mass self.old ≤ 2199023255552) }
+        ensures { (self.new ≡ fix i v self.old) × (mass self.new ≤ mass self.old) }
+    {
+        if v == 0 {
+            self.drop_to(0, i);
+            return;
         }
-        j = j + 1;
-    }
-}
-
-// i leaves with a state, and with its weight and its edges.
-pub fn drop_to(
-    lin: &mut [i64; 64],
-    edges: &mut [i64; 4096],
-    masks: &mut [u64; 64],
-    states: &mut [u8; 64],
-    s: u8,
-    i: usize,
-)
-    requires { i < 64 }
-    ensures { (n : ℕ) (c : ℤ) → n ≤ 64 → Shows n edges.old masks.old
-        → (graph n c lin.new edges.new states.new ≡ drop_to s i (graph n c lin.old edges.old states.old))
-        × Shows n edges.new masks.new }
-{
-    lin[i] = 0;
-    wipe(edges, masks, i);
-    states[i] = s;
-}
-
-// i is fixed to v.
-pub fn fix(
-    lin: &mut [i64; 64],
-    edges: &mut [i64; 4096],
-    masks: &mut [u64; 64],
-    states: &mut [u8; 64],
-    f: Frame,
-    i: usize,
-    v: u8,
-) -> Frame
-    requires { (i < 64) × (v < 2) × (f.n ≤ 64) × (mass (held f lin.old edges.old states.old) ≤ 2199023255552) × Shows f.n edges.old masks.old }
-    ensures { (held result lin.new edges.new states.new ≡ fixing i v (held f lin.old edges.old states.old))
-        × (result.n ≡ f.n)
-        × (mass (held result lin.new edges.new states.new) ≤ mass (held f lin.old edges.old states.old))
-        × Shows f.n edges.new masks.new }
-{
-    let n = f.n;
-    if v == 0 {
-        drop_to(lin, edges, masks, states, 0, i);
-        return f;
-    }
-    let row = row_of(edges, i, n);
-    let a = lin[i];
-    drop_to(lin, edges, masks, states, 1, i);
-    let g = add_constant(f, a);
-    spread(lin, &row, n);
-    g
-}
-
-// Ascending; 2 is free.
-pub fn fix_all(
-    lin: &mut [i64; 64],
-    edges: &mut [i64; 4096],
-    masks: &mut [u64; 64],
-    states: &mut [u8; 64],
-    start: Frame,
-    fixings: &[u8],
-) -> Frame
-    requires { (start.n ≤ 64) × (length fixings.now ≤ 64) × (mass (held start lin.old edges.old states.old) ≤ 2199023255552) × Shows start.n edges.old masks.old }
-    ensures { (held result lin.new edges.new states.new ≡ fix_all 0 fixings.now (held start lin.old edges.old states.old))
-        × (mass (held result lin.new edges.new states.new) ≤ 2199023255552) × (result.n ≡ start.n)
-        × Shows start.n edges.new masks.new }
-{
-    let mut f = start;
-    let mut i: usize = 0;
-    while i < fixings.len() {
-        let v = fixings[i];
-        if v < 2 {
-            let g = fix(lin, edges, masks, states, f, i, v);
-            f = g;
+        let near = self.mask(i);
+        let row = self.row(i);
+        let a = self.linear[i];
+        self.drop_to(1, i);
+        self.add_constant(a);
+        for j in Members(near) {
+            self.add_linear(j, row[j]);
         }
-        i = i + 1;
     }
-    f
+
+    // Ascending; 2 is free.
+    pub fn fix_all(&mut self, fixings: &[u8])
+        requires { (length fixings.now ≤ 64) × (mass self.old ≤ 2199023255552) }
+        ensures { (self.new ≡ fix_all 0 fixings.now self.old) × (mass self.new ≤ 2199023255552) }
+    {
+        for (i, v) in fixings.iter().enumerate() {
+            if *v < 2 {
+                self.fix(i, *v);
+            }
+        }
+    }
 }
 
-// The graph of an objective that is not refused, fixed, in arrays that hold zeros. It does not look at the switches and the budget.
-pub fn begin(
-    lin: &mut [i64; 64],
-    edges: &mut [i64; 4096],
-    masks: &mut [u64; 64],
-    states: &mut [u8; 64],
-    n: usize,
-    weights: &[i64],
-    firsts: &[u32],
-    seconds: &[u32],
-    term_weights: &[i64],
-    fixings: &[u8],
-) -> Frame
-    requires { (lin.old ≡ no_linear) × (edges.old ≡ no_edges) × (masks.old ≡ no_masks) × (states.old ≡ no_states) × Fit (objective n weights.now firsts.now seconds.now term_weights.now fixings.now 0 0) }
-    ensures { ((switches budget : ℕ) → held result lin.new edges.new states.new ≡ started (objective n weights.now firsts.now seconds.now term_weights.now fixings.now switches budget))
-        × (mass (held result lin.new edges.new states.new) ≤ 2199023255552) × (result.n ≡ n)
-        × Shows n edges.new masks.new }
-{
-    load(lin, weights);
-    add_terms(lin, edges, masks, firsts, seconds, term_weights);
-    opening(states, n);
-    let none = Frame { n: n, constant: 0 };
-    fix_all(lin, edges, masks, states, none, fixings)
+// ---- building
+impl Graph {
+    // A term of a decision with itself is linear.
+    fn add_term(&mut self, i: usize, j: usize, w: i64)
+        requires { (i < self.old.n) × (j < self.old.n) × (self.old.n ≤ 64) × (mass self.old + 2 * nat_abs w ≤ 2199023255552) }
+        ensures { (self.new ≡ add_term i j w self.old) × (mass self.new ≤ mass self.old + 2 * nat_abs w) }
+    {
+        if i == j {
+            self.add_linear(i, w);
+        } else {
+            self.add_edge(i, j, w);
+        }
+    }
+
+    fn add_terms(&mut self, o: Objective)
+        requires { Fit (of_lists o) × (self.old.n ≡ o.n) × (mass self.old + 2 * weight_of o.term_weights.now ≤ 2199023255552) }
+        ensures { (self.new ≡ add_terms o.entry.firsts.now o.entry.seconds.now o.entry.term_weights.now self.old) × (mass self.new ≤ 2199023255552) }
+    {
+        for ((i, j), w) in o.firsts.iter().zip(o.seconds).zip(o.term_weights) {
+            self.add_term(*i as usize, *j as usize, *w);
+        }
+    }
+
+    // The graph of an objective that is not refused, fixed. It does not look at the switches and the budget.
+    pub fn begin(o: Objective) -> Graph
+        requires { Fit (of_lists o) }
+        ensures { (result ≡ start (of_lists o.entry)) × (mass result ≤ 2199023255552) }
+    {
+        let n = o.n as usize;
+        let mut linear = [0; 64];
+        linear[..n].copy_from_slice(o.weights);
+        let mut states = [0; 64];
+        states[..n].fill(2);
+        let mut g = Graph {
+            n,
+            constant: 0,
+            linear,
+            edges: [0; 4096],
+            masks: [0; 64],
+            states,
+        };
+        g.add_terms(o);
+        g.fix_all(o.fixings);
+        g
+    }
 }

@@ -1,164 +1,94 @@
-// A LIST or hex digits, into a slice.
-use crate::place;
-use crate::place::LOST;
+// A field, into lent memory. Each answers the front of that memory which the field fills.
+ghost use Rattle.std.specs.Prelude.{◌<◌, IfSome};
 
-#[derive(Clone, Copy)]
-pub struct Filled {
-    pub count: usize,
-    pub next: usize,
-}
+use crate::fields::{Fields, number};
+use std::num::{ParseIntError, TryFromIntError};
+use std::str::FromStr;
 
-fn nothing() -> Filled {
-    Filled {
-        count: 0,
-        next: LOST,
-    }
-}
-
-// `COUNT*VALUE`, the value as 64 bits.
-#[derive(Clone, Copy)]
-pub struct Run {
-    pub count: u64,
-    pub value: u64,
-    pub next: usize,
-}
-
-pub fn run_at(line: &[u8], at: usize) -> Run {
-    let c = place::number(line, at);
-    let v = place::bits(line, place::pass(line, c.next, 42));
-    let next = if c.value == 0 { LOST } else { v.next };
-    Run {
-        count: c.value,
-        value: v.value,
-        next,
-    }
-}
-
-// The value `count` times, from a place on. The place after, or LOST where there is no room.
-fn put_run(out: &mut [u64], from: usize, count: u64, value: u64) -> usize {
-    let mut n = from;
-    let mut left = count;
-    while 0 < left {
-        if out.len() <= n {
-            return LOST;
+// Pieces with a space between. `put` fills the front of what is left, and says how much.
+fn pieces<'a, T, Put: Fn(&[u8], &mut [T]) -> Option<usize>>(
+    field: &[u8],
+    room: &'a mut [T],
+    put: Put,
+) -> Option<&'a [T]>
+    requires { Put.IsAlwaysCallable put }
+{
+    let mut n = 0usize;
+    if !field.is_empty() {
+        for piece in field.split(|b| *b == b' ') {
+            n = n.checked_add(put(piece, room.get_mut(n..)?)?)?;
         }
-        out[n] = value;
-        n = n + 1;
-        left = left - 1;
     }
-    n
+    room.get(..n)
 }
 
-// A LIST up to the byte `end`.
-pub fn list(line: &[u8], at: usize, end: u8, out: &mut [u64]) -> Filled {
-    if place::byte_at(line, at) == end {
-        return Filled {
-            count: 0,
-            next: place::pass(line, at, end),
+// Numbers.
+pub fn numbers<'a, T: FromStr<Err = ParseIntError> + Copy>(
+    field: &[u8],
+    room: &'a mut [T],
+) -> Option<&'a [T]> {
+    pieces(field, room, |piece, back| {
+        *back.first_mut()? = number(piece)?;
+        Some(1)
+    })
+}
+
+// `COUNT*VALUE`: the value stands that often.
+fn repeat<T: Copy>(count: usize, value: T, back: &mut [T]) -> Option<usize> {
+    if count == 0 {
+        return None;
+    }
+    for place in back.get_mut(..count)? {
+        *place = value;
+    }
+    Some(count)
+}
+
+// A LIST: `COUNT*VALUE COUNT*VALUE ..`, each value that often.
+pub fn list<'a, T: TryFrom<i64, Error = TryFromIntError> + Copy>(
+    field: &[u8],
+    room: &'a mut [T],
+) -> Option<&'a [T]> {
+    pieces(field, room, |piece, back| {
+        let mut fields = Fields { rest: piece };
+        let count = fields.number(b'*')?;
+        let value = number::<i64>(fields.rest)?;
+        repeat(count, T::try_from(value).ok()?, back)
+    })
+}
+
+fn digit(b: u8) -> Option<u8>
+    ensures { IfSome result (λ d. d < 16) }
+{
+    match b {
+        b'0'..=b'9' => Some(b - b'0'),
+        b'a'..=b'f' => Some(b - b'a' + 10),
+        _ => None,
+    }
+}
+
+// Bytes, each as two hex digits.
+pub fn hex<'a>(digits: &[u8], room: &'a mut [u8]) -> Option<&'a [u8]> {
+    let bytes = room.get_mut(..digits.len().div_ceil(2))?;
+    for (byte, pair) in bytes.iter_mut().zip(digits.chunks(2)) {
+        let [high, low] = pair else { return None };
+        *byte = 16 * digit(*high)? + digit(*low)?;
+    }
+    Some(bytes)
+}
+
+// PIECES: `COUNT*HEX`, where the count is over 1 one byte that often, else a stretch of bytes.
+pub fn text<'a>(field: &[u8], room: &'a mut [u8]) -> Option<&'a [u8]> {
+    pieces(field, room, |piece, back| {
+        let mut fields = Fields { rest: piece };
+        let count = fields.number(b'*')?;
+        if count == 1 {
+            return Some(hex(fields.rest, back)?.len());
+        }
+        let mut byte = [0u8];
+        let [byte] = hex(fields.rest, &mut byte)? else {
+            return None
         };
-    }
-    let mut n = 0;
-    let mut p = at;
-    let mut turns = 0;
-    while turns < line.len() {
-        let r = run_at(line, p);
-        n = put_run(out, n, r.count, r.value);
-        if n == LOST {
-            return nothing();
-        }
-        if place::byte_at(line, r.next) == end {
-            return Filled {
-                count: n,
-                next: place::pass(line, r.next, end),
-            };
-        }
-        p = place::pass(line, r.next, 32);
-        turns = turns + 1;
-    }
-    nothing()
-}
-
-// The first `count` as bytes: does each fit?
-pub fn bytes_of(from: &[u64], count: usize, out: &mut [u8]) -> bool {
-    let mut i = 0;
-    while i < count {
-        if from.len() <= i {
-            return false;
-        }
-        if out.len() <= i {
-            return false;
-        }
-        if 255 < from[i] {
-            return false;
-        }
-        out[i] = from[i] as u8;
-        i = i + 1;
-    }
-    true
-}
-
-// The first `count` as unsigned 32-bit numbers: does each fit?
-pub fn narrow(from: &[u64], count: usize, out: &mut [u32]) -> bool {
-    let mut i = 0;
-    while i < count {
-        if from.len() <= i {
-            return false;
-        }
-        if out.len() <= i {
-            return false;
-        }
-        if 4294967295 < from[i] {
-            return false;
-        }
-        out[i] = from[i] as u32;
-        i = i + 1;
-    }
-    true
-}
-
-// The first `count` as weights.
-pub fn weights_of(from: &[u64], count: usize, out: &mut [i64]) -> bool {
-    let mut i = 0;
-    while i < count {
-        if from.len() <= i {
-            return false;
-        }
-        if out.len() <= i {
-            return false;
-        }
-        out[i] = place::signed(from[i]);
-        i = i + 1;
-    }
-    true
-}
-
-// The byte `count` times, from a place on. The place after, or LOST where there is no room.
-pub fn repeat(out: &mut [u8], from: usize, count: u64, b: u8) -> usize {
-    let mut n = from;
-    let mut left = count;
-    while 0 < left {
-        if out.len() <= n {
-            return LOST;
-        }
-        out[n] = b;
-        n = n + 1;
-        left = left - 1;
-    }
-    n
-}
-
-// The bytes that hex digits write, from a place on, up to the first byte that is no digit.
-pub fn hex(line: &[u8], at: usize, from: usize, out: &mut [u8]) -> Filled {
-    let mut n = from;
-    let mut p = at;
-    while n < out.len() {
-        let d = place::pair(line, p);
-        if d.next == LOST {
-            return Filled { count: n, next: p };
-        }
-        out[n] = d.value as u8;
-        n = n + 1;
-        p = d.next;
-    }
-    Filled { count: n, next: p }
+        repeat(count, *byte, back)
+    })
 }

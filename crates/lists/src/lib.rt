@@ -1,6 +1,8 @@
-// Readers of the stored lists. A reader that does not find what it looks for answers the place LOST, where no reader finds anything.
+// Readers of the stored lists. Where one does not stand as its form asks, the answer is None.
 #![tactic(auto)]
 
-pub mod fill; // into slices
-pub mod place; // one byte, one number
-pub mod told; // what a line tells, held against what came
+mod fields; // a line, field by field
+mod fill; // a field, into lent memory
+
+pub use fields::{Fields, number};
+pub use fill::{hex, list, numbers, text};

@@ -3,33 +3,34 @@ use mathlib.Core.Path.{◌≡◌, refl, sym, ap, ap₂, ◌∙◌, subst}
 use mathlib.Core.Bool.{Bool, true, false}
 use mathlib.Core.List.{List, [], ◌∷◌}
 use mathlib.Core.Logic.{◌≢◌}
-use Prim.Native.Nat.{ℕ, zero, suc, ◌+◌, ◌*◌, ◌-◌, ◌^◌, ◌<◌, ◌≤◌}
+use Prim.Native.Nat.{ℕ, ◌+◌, ◌*◌, ◌-◌, ◌^◌, ◌<◌, ◌≤◌}
 use native.Mathlib.Omega.{arith}
 use native.Mathlib.Numerals.{add-one}
 use native.Mathlib.Nat.{sub-eq-zero_of_le}
-use lib.ListN.{length, get_or, set, take}
+use lib.ListN.{length, get_or, take}
+use lib.Seq.{get_or-set_other}
 use lib.Pow.{pow_mono}
 use lib.IntN.{ℤ, pos, ◌+ℤ◌, ◌-ℤ◌}
 use mir.Syntax.{w64}
 use mir.Val.{SFits, to_z, of_z}
+use Rattle.std.specs.Int.Signed.{lt_z}
 use Rattle.whole.specs.Parts.{∣◌∣}
 use Rattle.whole.specs.Ints.{ints}
 use Rattle.whole.specs.Fits.{fit, read}
 use Rattle.whole.specs.Words.{tab, chosen, bits_from}
 use Rattle.whole.specs.Lists.{tab_at, cons_same}
 use Rattle.whole.specs.Counts.{one_left}
-use Rattle.whole.specs.Members.{apart_head, apart_tail, apart_new, apart_wider, out_cons}
+use Rattle.whole.specs.Members.{apart_new, apart_at, out_cons}
 use Rattle.whole.specs.Pigeon.{Apart}
-use Rattle.rules.specs.Graph.{Graph, neighbours, add_constant, add_linear, add_edge, drop_to}
+use Rattle.rules.specs.Graph.{Graph, lin, edge, neighbours, add_constant, add_linear, add_edge, drop_to}
 use Rattle.rules.specs.Eliminate.{tee, absorb, eliminate}
+use Rattle.rules.specs.Size.{Within}
 use Rattle.cost_laws.specs.Growth.{neighbours_apart}
 use Rattle.graph.specs.Near.{three, near_at}
 use Rattle.graph.specs.NearLaws.{near_count, near_list}
 use Rattle.graph.specs.declared.Near.{Near}
-use Rattle.graph.specs.Held.{held, with_constant}
 use Rattle.accepted_laws.specs.Small.{Small}
-use Rattle.size_laws.specs.Sizes.{delta_size, table_size}
-use Rattle.graph.specs.declared.Frame.{Frame}
+use Rattle.size_laws.specs.Sizes.{delta_size, table_size, gain_fits}
 use Rattle.low_degree.specs.Table.{deltas_of}
 use Rattle.low_degree.specs.AbsorbLaws.{pair_whole, absorb_same}
 use Rattle.graph.specs.Small.{small_three}
@@ -110,6 +111,10 @@ module _ (a : ℤ) (ws : List ℤ) where
     }
 
 -- ---- the choices
+-- bit m, of a list of deltas
+abbrev pub chosen_at : List ℤ → ℕ → Bool
+chosen_at ds m = lt_z (get_or ds m (pos 0)) (pos 0)
+
 module _ (f : ℕ → Bool) (m n : ℕ) (h : m < n) where
   pub bits_more : f m ≡ true → bits_from f m (n - m) ≡ 2 ^ m + bits_from f (m + 1) (n - (m + 1))
   unfolding bits_from
@@ -160,33 +165,62 @@ gains t s =
       e3 = fit (t' 3 -ℤ t' 1 -ℤ t' 2 +ℤ t' 0) (omega (arith, sums.pair));
     }
 
--- the neighbours that are there are decisions, and the second is another than the first
-pub first_low : (count j k : ℕ) → Apart 64 (take count (j ∷ k ∷ [])) → count ≢ 0 → j < 64
-first_low zero j k a h = absurd (h refl)
-first_low (suc count) j k a h = apart_head a
+-- the ends that are there, and what the rules' update makes of them
+pub second_other : {n : ℕ} (ns : List ℕ) → Apart n ns → 2 ≤ length ns → get_or ns 1 0 ≢ get_or ns 0 0
+second_other [] a l e = absurd (omega arith)
+second_other (j ∷ []) a l e = absurd (omega arith)
+second_other (j ∷ k ∷ ns) a l e = (out_cons j k ns (apart_new a)).0 (sym e)
 
-pub second_other : (count j k : ℕ) → count ≡ 2 → Apart 64 (take count (j ∷ k ∷ [])) → (k < 64) × (k ≢ j)
-second_other count j k e a =
-    let both : Apart 64 (j ∷ k ∷ []) = subst (λ (c : ℕ). Apart 64 (take c (j ∷ k ∷ []))) e a in
-    (apart_head (apart_tail both), λ q. (out_cons j k [] (apart_new both)).0 (sym q))
+module _ (t : ℕ → ℤ) (g : Graph) where
+  pub absorb_none : (ns : List ℕ) → length ns < 1 → absorb t ns g ≡ add_constant (t 0) g
+  unfolding absorb
+  absorb_none [] h = refl
+  absorb_none (j ∷ ns) h = absurd (omega arith)
 
-module _ (t : ℕ → ℤ) (f g : Frame) (l e : List ℤ) (ss : List ℕ) (j k : ℕ) (h : g ≡ with_constant f (f.constant +ℤ t 0)) where
-  abbrev near : ℕ → List ℕ
-  near count = take count (j ∷ k ∷ [])
+  pub absorb_one : (ns : List ℕ) → 1 ≤ length ns → length ns < 2 → absorb t ns g ≡ add_linear (get_or ns 0 0) (t 1 -ℤ t 0) (add_constant (t 0) g)
+  unfolding absorb
+  absorb_one [] l h = absurd (omega arith)
+  absorb_one (j ∷ []) l h = refl
+  absorb_one (j ∷ k ∷ ns) l h = absurd (omega arith)
 
-  pub absorb_none : (count : ℕ) → count ≡ 0 → held g l e ss ≡ absorb t (near count) (held f l e ss)
-  unfolding absorb add_constant
-  absorb_none count z = rw z (ap (λ (x : Frame). held x l e ss) h)
+  pub absorb_two : (ns : List ℕ) → 2 ≤ length ns
+      → absorb t ns g ≡ add_edge (get_or ns 0 0) (get_or ns 1 0) (t 3 -ℤ t 1 -ℤ t 2 +ℤ t 0) (add_linear (get_or ns 1 0) (t 2 -ℤ t 0) (add_linear (get_or ns 0 0) (t 1 -ℤ t 0) (add_constant (t 0) g)))
+  unfolding absorb
+  absorb_two [] l = absurd (omega arith)
+  absorb_two (j ∷ []) l = absurd (omega arith)
+  absorb_two (j ∷ k ∷ ns) l = refl
 
-  pub absorb_one : (count : ℕ) (l₁ : List ℤ) → count ≡ 1 → l₁ ≡ set l j (get_or l j (pos 0) +ℤ (t 1 -ℤ t 0)) → held g l₁ e ss ≡ absorb t (near count) (held f l e ss)
-  unfolding absorb add_constant add_linear
-  absorb_one count l₁ z p = rw (z, p) (ap (λ (x : Frame). held x (set l j (get_or l j (pos 0) +ℤ (t 1 -ℤ t 0))) e ss) h)
+-- what each of its updates asks: the end is a decision, and its sum fits
+module _ (t : List ℤ) (s : Small (2 ^ 50) t) (g : Graph) (small : g.n ≤ 64) (w : Within g) (ns : List ℕ) (apart : Apart g.n ns) where
+  abbrev e : ℕ → ℤ
+  e m = get_or t m (pos 0)
 
-  pub absorb_two : (count : ℕ) (l₁ l₂ e₁ : List ℤ) → count ≡ 2 → l₁ ≡ set l j (get_or l j (pos 0) +ℤ (t 1 -ℤ t 0)) → l₂ ≡ set l₁ k (get_or l₁ k (pos 0) +ℤ (t 2 -ℤ t 0))
-      → e₁ ≡ set (set e (64 * j + k) (get_or e (64 * j + k) (pos 0) +ℤ (t 3 -ℤ t 1 -ℤ t 2 +ℤ t 0))) (64 * k + j) (get_or e (64 * k + j) (pos 0) +ℤ (t 3 -ℤ t 1 -ℤ t 2 +ℤ t 0))
-      → held g l₂ e₁ ss ≡ absorb t (near count) (held f l e ss)
-  unfolding absorb add_constant add_linear add_edge
-  absorb_two count l₁ l₂ e₁ z p q r = rw z (ap (λ (x : Frame). held x l₂ e₁ ss) h ∙ rw (r, q, p))
+  abbrev j : ℕ
+  j = get_or ns 0 0
+
+  abbrev k : ℕ
+  k = get_or ns 1 0
+
+  pub first_asks : 1 ≤ length ns → (j < 64) × SFits w64 (lin (add_constant (e 0) g) j +ℤ (e 1 -ℤ e 0))
+  unfolding add_constant
+  first_asks h = (omega (arith, small, apart_at g.n ns 0 apart (omega arith)), gain_fits g.linear g.linear j (e 1 -ℤ e 0) (w.linear j) refl (gains t s).b1 (omega arith))
+
+  pub second_asks : 2 ≤ length ns → (k < 64) × SFits w64 (lin (add_linear j (e 1 -ℤ e 0) (add_constant (e 0) g)) k +ℤ (e 2 -ℤ e 0))
+  unfolding add_constant add_linear
+  second_asks h = (
+    omega (arith, small, apart_at g.n ns 1 apart (omega arith)),
+    gain_fits g.linear _ k (e 2 -ℤ e 0) (w.linear k) (get_or-set_other g.linear j k _ (pos 0) (second_other ns apart h)) (gains t s).b2 (omega arith),
+  )
+
+  pub pair_asks : 2 ≤ length ns
+      → let r : Graph = add_linear k (e 2 -ℤ e 0) (add_linear j (e 1 -ℤ e 0) (add_constant (e 0) g)) in
+      (j < r.n) × (k < r.n) × SFits w64 (edge r j k +ℤ (e 3 -ℤ e 1 -ℤ e 2 +ℤ e 0))
+  unfolding add_constant add_linear
+  pair_asks h = (
+    apart_at g.n ns 0 apart (omega arith),
+    apart_at g.n ns 1 apart (omega arith),
+    gain_fits g.edges g.edges (64 * j + k) (e 3 -ℤ e 1 -ℤ e 2 +ℤ e 0) (w.edges (64 * j + k)) refl (gains t s).b3 (omega arith),
+  )
 
 module _ (g : Graph) (i : ℕ) (near : Near) (is : near ≡ near_at g i) (few : near.count ≤ 2) where
   short : length (neighbours g i) ≤ 2
@@ -196,8 +230,11 @@ module _ (g : Graph) (i : ℕ) (near : Near) (is : near ≡ near_at g i) (few : 
   pair_is : take near.count (get_or near.list 0 0 ∷ get_or near.list 1 0 ∷ []) ≡ neighbours g i
   pair_is = rw (near_count g i near is, near_list g i near is 0 (omega arith), near_list g i near is 1 (omega arith)) (pair_whole (neighbours g i) short)
 
-  pub pair_apart : g.n ≤ 64 → Apart 64 (take near.count (get_or near.list 0 0 ∷ get_or near.list 1 0 ∷ []))
-  pair_apart h = subst (Apart 64) (sym pair_is) (apart_wider h (neighbours_apart g i))
+  pub pair_apart : (n : ℕ) → n ≡ g.n → Apart n (take near.count (get_or near.list 0 0 ∷ get_or near.list 1 0 ∷ []))
+  pair_apart n h = rw h (subst (Apart g.n) (sym pair_is) (neighbours_apart g i))
+
+  pub pair_short : length (take near.count (get_or near.list 0 0 ∷ get_or near.list 1 0 ∷ [])) ≤ 2
+  pair_short = rw pair_is short
 
   pub eliminated : (d r : Graph) (t : List ℤ) → t ≡ tab (tee g i) 8 → d ≡ drop_to 3 i g
       → r ≡ absorb (λ m. get_or t m (pos 0)) (take near.count (get_or near.list 0 0 ∷ get_or near.list 1 0 ∷ [])) d → r ≡ eliminate i g

@@ -11,7 +11,7 @@ use Rattle.whole.specs.Pigeon.{Apart}
 use Rattle.whole.specs.Members.{apart_new, apart_join, mem_append}
 use Rattle.whole.specs.Counts.{less_one}
 use Rattle.queue.specs.Items.{ring_from, items, QueueKept}
-use Rattle.queue.specs.declared.Queue.{Queue}
+use Rattle.queue.specs.declared.Queue.TheInside.{Inside}
 
 -- the place counts by its remainder alone
 ring_mod : (n : ℕ) (r : List ℕ) (h k : ℕ) → h % 64 ≡ k % 64 → ring_from r h n ≡ ring_from r k n
@@ -63,7 +63,7 @@ pub shown_more : (w m : ℕ) (xs : List ℕ) → ((k : ℕ) → k < 64 → bit w
 shown_more w m xs h k lk = bit_or_lem w m k ∙ ap₂ (λ (p q : Bool). p || q) (h k lk) (sym (mem_these m k lk)) ∙ sym (mem_append k xs (these m))
 
 -- someone waits: the front and those behind it are different decisions
-module _ (q : Queue) (p : QueueKept q) (l : 0 < q.len) where
+module _ (q : Inside) (p : QueueKept q) (l : 0 < q.len) where
   abbrev pub front : ℕ
   front = get_or q.places q.head 0
 
@@ -80,5 +80,5 @@ module _ (q : Queue) (p : QueueKept q) (l : 0 < q.len) where
   behind_is = ap (drop 1) parts
 
 -- decisions that do not wait join: they and those that wait are different ones
-pub joined_apart : (q : Queue) (m : ℕ) → QueueKept q → ((k : ℕ) → mem k (these m) ≡ true → mem k (items q) ≡ false) → Apart 64 (items q ++ these m)
+pub joined_apart : (q : Inside) (m : ℕ) → QueueKept q → ((k : ℕ) → mem k (these m) ≡ true → mem k (items q) ≡ false) → Apart 64 (items q ++ these m)
 joined_apart q m p new = apart_join p.apart (these_apart m) (λ k w. refuse (mem k (these m)) (λ j. clash w (new k j)))

@@ -1,24 +1,40 @@
 // "Take from the front": a queue of waiting decisions, whose methods take self and return the next queue.
 #![tactic(auto)]
 
-ghost use Rattle.std.specs.Prelude.{◌≡◌, true, false, ℕ, ◌<◌, [], ◌∷◌, ◌++◌, drop};
-ghost use Rattle.whole.specs.Words.{mem};
+ghost use Rattle.std.specs.Prelude.{◌≡◌, true, false, not, ℕ, ◌<◌, [], ◌∷◌, ◌++◌, MatchOption};
+ghost use Rattle.whole.specs.Words.{mem, those};
 ghost use Rattle.whole.specs.Masks.{these};
-ghost use Rattle.queue.specs.Items.{items, QueueKept};
+
+use std::marker::Model;
+use whole::Members;
 
 // 64 places that go round, where the front stands in them, how many wait, and a mask of those that do.
-#[derive(Clone, Copy)]
+// Kept: an array with its length beside it, since there is no heap: 01 names the struct, and 64 places are enough.
+#[derive(Drop)]
 pub struct Queue {
-    pub head: u32,
-    pub len: u32,
-    pub waiting: u64,
-    pub places: [u8; 64],
+    head: usize,
+    len: usize,
+    waiting: u64,
+    places: [u8; 64],
+}
+
+// Clauses see who waits, the front first.
+impl Model for Queue {
+    ghost use Rattle.std.specs.Prelude.{List, ℕ};
+
+    ghost Value = { List ℕ };
+
+    ghost use Rattle.queue.specs.Items.{items, QueueKept};
+
+    ghost view = { items };
+
+    ghost invariant = { QueueKept };
 }
 
 impl Queue {
     // Nobody waits.
     pub fn new() -> Queue
-        ensures { (items result ≡ []) × QueueKept result }
+        ensures { result ≡ [] }
     {
         Queue {
             head: 0,
@@ -28,44 +44,41 @@ impl Queue {
         }
     }
 
-    // Who is in front.
-    pub fn front(self) -> usize
-        requires { QueueKept self × (0 < self.len) }
-        ensures { (result < 64) × (items self ≡ result ∷ drop 1 (items self)) }
+    // Who is in front, and the queue of those behind.
+    pub fn take_front(self) -> Option<(usize, Queue)>
+        ensures { MatchOption result (self ≡ []) (λ r. (self ≡ r.0 ∷ r.1) × (r.0 < 64)) }
     {
-        let h = self.head as usize;
-        self.places[h] as usize
+        if self.len == 0 {
+            return None;
+        }
+        let front = self.places[self.head] as usize;
+        let one: u64 = 1 << front;
+        let mut next = self;
+        next.head = (next.head + 1) % 64;
+        next.len -= 1;
+        next.waiting = whole::without(next.waiting, one);
+        Some((front, next))
     }
 
-    // Those behind the front.
-    pub fn behind(self) -> Queue
-        requires { QueueKept self × (0 < self.len) }
-        ensures { (items result ≡ drop 1 (items self)) × QueueKept result }
+    // Those of a mask who do not wait.
+    pub fn not_waiting(&self, of: u64) -> u64
+        ensures { these result ≡ those (λ k. not (mem k self.now)) (these of) }
     {
-        let d = self.front();
-        let one: u64 = 1 << d;
-        let mut next = self;
-        next.head = (self.head + 1) % 64;
-        next.len = self.len - 1;
-        next.waiting = whole::without(self.waiting, one);
-        next
+        whole::without(of, self.waiting)
     }
 
     // The decisions of a mask, none of which waits, join the back, ascending: so there is room.
     pub fn push_all(self, new: u64) -> Queue
-        requires { QueueKept self × ((k : ℕ) → mem k (these new) ≡ true → mem k (items self) ≡ false) }
-        ensures { (items result ≡ items self ++ these new) × QueueKept result }
+        requires { (k : ℕ) → mem k (these new) ≡ true → mem k self ≡ false }
+        ensures { result ≡ self ++ these new }
     {
         let mut next = self;
-        let mut rest = new;
-        while rest != 0 {
-            let d = u64::trailing_zeros(rest);
-            let at = ((next.head + next.len) % 64) as usize;
+        for d in Members(new) {
+            let at = (next.head + next.len) % 64;
             next.places[at] = d as u8;
-            next.len = next.len + 1;
-            rest = rest & (rest - 1);
+            next.len += 1;
         }
-        next.waiting = self.waiting | new;
+        next.waiting |= new;
         next
     }
 }

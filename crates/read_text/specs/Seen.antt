@@ -1,68 +1,35 @@
--- What a reader's answer says, as the definitions have it: a value, and what is left of the text t. Assumes nothing.
-use Rattle.std.specs.Prelude.{◌≡◌, ℕ, ◌≤◌, List, length, take, drop, ℤ}
+-- What a reader's answer says, as the definitions have it: a value, and what is left of the text. Assumes nothing.
+use Rattle.std.specs.Prelude.{ℕ, List, take, Option, Some, None, Result, Ok, Err}
+use Rattle.std.specs.Borrow.{Bor}
+use Rattle.rules.specs.Objective as rule
 use Rattle.rules.specs.ReadText.{Read, got, bad, Head, Terms, Input, given, refused, objective_of}
-use Rattle.read_text.specs.declared.Byte.{Byte}
-use Rattle.read_text.specs.declared.Byte.TheVariants as byte
-use Rattle.read_text.specs.declared.Parsed.{Parsed}
-use Rattle.read_text.specs.declared.Parsed.TheVariants as parsed
-use Rattle.read_text.specs.declared.Text.{Text}
-use Rattle.read_text.specs.declared.Narrow.{Narrow}
-use Rattle.read_text.specs.declared.Narrow.TheVariants as narrow
-use Rattle.read_text.specs.declared.Head as code
-use Rattle.read_text.specs.declared.First.{First}
-use Rattle.read_text.specs.declared.First.TheVariants as first
-use Rattle.read_text.specs.declared.Line.{Line}
-use Rattle.read_text.specs.declared.Line.TheVariants as line
+use Rattle.rules.specs.Numbers.{number_of}
+use Rattle.rules.specs.declared.refusal.Refusal.{Refusal}
+use Rattle.read_text.specs.declared.text.Head as code
+use Rattle.read_text.specs.declared.text.Terms as code_terms
+use Rattle.read_text.specs.declared.text.Text.{Text}
 
 -- xs was read
-abbrev pub seen_line : {A : Type 0} → List ℕ → List A → Line → Read (List A)
-seen_line t xs (line.Read next) = got xs (drop next t)
-seen_line t xs line.Malformed = bad
-
-abbrev pub seen32 : List ℕ → Narrow → Read ℕ
-seen32 t (narrow.Value v next) = got v (drop next t)
-seen32 t narrow.Malformed = bad
+abbrev pub seen_line : {A : Type 0} → A → Option (Bor (List ℕ)) → Read A
+seen_line xs (Some rest) = got xs rest.now
+seen_line xs None = bad
 
 -- the code's first line is the definition's
 abbrev pub head_of : code.Head → Head
 head_of h = record { n = h.n; switches = h.switches; budget = h.budget; terms = h.terms }
 
-abbrev pub seen_head : List ℕ → First → Read Head
-seen_head t (first.Read h next) = got (head_of h) (drop next t)
-seen_head t first.Malformed = bad
-
-abbrev pub seen8 : List ℕ → Byte → Read ℕ
-seen8 t (byte.Value v next) = got v (drop next t)
-seen8 t byte.Malformed = bad
-
-abbrev pub seen_terms : List ℕ → List ℕ → List ℕ → List ℤ → Line → Read Terms
-seen_terms t is js ws (line.Read next) = got (record { is = is; js = js; ws = ws }) (drop next t)
-seen_terms t is js ws line.Malformed = bad
-
--- how long the arrays are
-pub record Lengths (ps : List ℤ) (fs is js : List ℕ) (ws : List ℤ) : Type 0 where
-  pub weights : length ps ≡ 64
-  pub fixings : length fs ≡ 64
-  pub firsts : length is ≡ 1024
-  pub seconds : length js ≡ 1024
-  pub term_weights : length ws ≡ 1024
+-- the k terms at the fronts of the arrays
+abbrev pub terms_in : ℕ → code_terms.Terms → Terms
+terms_in k t = record { is = take k t.firsts; js = take k t.seconds; ws = take k t.weights }
 
 -- the arrays hold n weights, n fixing bytes and the terms at their fronts
-abbrev pub seen_input : List ℤ → List ℕ → List ℕ → List ℕ → List ℤ → Parsed → Input
-seen_input ps fs is js ws (parsed.Given h) = given (objective_of (head_of h) (take h.n ps) (take h.n fs) (record { is = take h.terms is; js = take h.terms js; ws = take h.terms ws }))
-seen_input ps fs is js ws (parsed.Refused k) = refused k
+abbrev pub objective_in : Text → rule.Objective
+objective_in t = objective_of (head_of t.head) (take t.head.n t.weights) (take t.head.n t.fixings) (terms_in t.head.terms t.terms)
 
--- so many as the arrays hold
-abbrev pub InArrays : Parsed → Type 0
-InArrays (parsed.Given h) = (h.n ≤ 64) × (h.terms ≤ 1024)
-InArrays (parsed.Refused k) = Unit
+abbrev pub seen_lists : Option Text → Input
+seen_lists (Some t) = given (objective_in t)
+seen_lists None = refused 13
 
--- the answer r, with what it left in the arrays, is the input i
-pub record ParsesInto (ps : List ℤ) (fs is js : List ℕ) (ws : List ℤ) (r : Parsed) (i : Input) : Type 0 where
-  pub reads : seen_input ps fs is js ws r ≡ i
-  pub few : InArrays r
-
--- the text r, read, is the input i
-pub record Parses (r : Text) (i : Input) : Type 0 where
-  pub reads : seen_input r.weights r.fixings r.firsts r.seconds r.term_weights r.parsed ≡ i
-  pub few : InArrays r.parsed
+abbrev pub seen_input : Result Text Refusal → Input
+seen_input (Ok t) = given (objective_in t)
+seen_input (Err r) = refused (number_of r)

@@ -1,284 +1,114 @@
-// Readers of the program's text: a cursor by value, and an enum for the answer.
+// Readers of the program's text: each takes what is left of it, and gives what it read and what is then left.
 #![tactic(auto)]
 
-ghost use Rattle.std.specs.Prelude.{◌≡◌, ℕ, ◌≤◌, length, take, drop, List, [], ◌∷◌, ℤ};
-ghost use Rattle.rules.specs.ReadText.{number8, number32, weight, ender, line, empty, head, terms, after_weights, input};
-ghost use Rattle.read_text.specs.Seen.{seen32, seen8, seen_line, head_of, seen_head, seen_terms, Lengths, ParsesInto, Parses};
+mod field;
+mod text;
 
-use decimal::{Number, Signed};
+ghost use Rattle.std.specs.Prelude.{◌≡◌, ◌≤◌, [], length};
+ghost use Rattle.rules.specs.ReadText.{turned, weight, line, head, terms, after_weights, input};
+ghost use Rattle.decimal.specs.Seen.{seen};
+ghost use Rattle.read_text.specs.Seen.{seen_line, head_of, terms_in, seen_lists, seen_input};
 
-// A line that was read, and where to read on.
-#[derive(Clone, Copy)]
-pub enum Line {
-    Read(usize),
-    Malformed,
-}
+use field::Field;
+use rules::Refusal;
+pub use text::Text;
+use text::{Head, Terms};
 
-// What ends a number with this many more to come on its line.
-fn end_of(more: usize) -> u8
-    ensures { result ≡ ender more }
+// A line of numbers, one for each place of `out`.
+fn read_line<'a, T: Field>(text: &'a [u8], out: &mut [T]) -> Option<&'a [u8]>
+    ensures { seen_line out.new result ≡ line T.one (length out.old) text.now }
 {
-    if more == 0 { 10 } else { 32 }
-}
-
-fn read_empty(text: &[u8], at: usize) -> Line
-    ensures { (seen_line {A = ℤ} text.now [] result ≡ empty (drop at text.now)) × (seen_line {A = ℕ} text.now [] result ≡ empty (drop at text.now)) }
-{
-    if text.len() <= at {
-        return Line::Malformed;
+    if out.is_empty() {
+        return text.strip_prefix(b"\n");
     }
-    if text[at] == 10 {
-        Line::Read(at + 1)
-    } else {
-        Line::Malformed
+    let last = out.len() - 1;
+    let mut rest = text;
+    for (i, place) in out.iter_mut().enumerate() {
+        let end = if i == last { b'\n' } else { b' ' };
+        let (x, after) = T::read(rest, end)?;
+        *place = x;
+        rest = after;
     }
-}
-
-// A line of n weights, into the front of `out`.
-pub fn read_weights(text: &[u8], at: usize, n: usize, out: &mut [i64; 64]) -> Line
-    requires { (n ≤ 64) × (length out.old ≡ 64) }
-    ensures { seen_line text.now (take n out.new) result ≡ line weight n (drop at text.now) }
-{
-    if n == 0 {
-        return read_empty(text, at);
-    }
-    let mut p = at;
-    let mut i = 0;
-    while i < n {
-        let Signed::Value(w, next) = decimal::read_signed(text, p, end_of(n - i - 1)) else {
-            return Line::Malformed;
-        };
-        out[i] = w;
-        p = next;
-        i = i + 1;
-    }
-    Line::Read(p)
-}
-
-// A u32 and where to read on.
-#[derive(Clone, Copy)]
-pub enum Narrow {
-    Value(u32, usize),
-    Malformed,
-}
-
-pub fn read_u32(text: &[u8], at: usize, end: u8) -> Narrow
-    ensures { seen32 text.now result ≡ number32 end (drop at text.now) }
-{
-    match decimal::read_number(text, at, 4294967295, end) {
-        Number::Value(v, next) => Narrow::Value(v as u32, next),
-        Number::Malformed => Narrow::Malformed,
-    }
+    Some(rest)
 }
 
 // The first line.
-#[derive(Clone, Copy)]
-pub struct Head {
-    pub n: u32,
-    pub switches: u32,
-    pub budget: u32,
-    pub terms: u32,
-}
-
-#[derive(Clone, Copy)]
-pub enum First {
-    Read(Head, usize),
-    Malformed,
-}
-
-pub fn read_head(text: &[u8]) -> First
-    ensures { seen_head text.now result ≡ head text.now }
+#[tactic(auto, unfolding(rules::specs::ReadText::head))]
+fn read_head(text: &[u8]) -> Option<(Head, &[u8])>
+    ensures { turned head_of (seen result) ≡ head text.now }
 {
-    let Narrow::Value(n, a) = read_u32(text, 0, 32) else {
-        return First::Malformed;
-    };
-    let Narrow::Value(switches, b) = read_u32(text, a, 32) else {
-        return First::Malformed;
-    };
-    let Narrow::Value(budget, c) = read_u32(text, b, 32) else {
-        return First::Malformed;
-    };
-    let Narrow::Value(terms, d) = read_u32(text, c, 10) else {
-        return First::Malformed;
-    };
-    First::Read(
+    let (n, rest) = u32::read(text, b' ')?;
+    let (switches, rest) = u32::read(rest, b' ')?;
+    let (budget, rest) = u32::read(rest, b' ')?;
+    let (terms, rest) = u32::read(rest, b'\n')?;
+    Some((
         Head {
             n,
             switches,
             budget,
             terms,
         },
-        d,
-    )
-}
-
-// A byte and where to read on.
-#[derive(Clone, Copy)]
-pub enum Byte {
-    Value(u8, usize),
-    Malformed,
-}
-
-pub fn read_u8(text: &[u8], at: usize, end: u8) -> Byte
-    ensures { seen8 text.now result ≡ number8 end (drop at text.now) }
-{
-    match decimal::read_number(text, at, 255, end) {
-        Number::Value(v, next) => Byte::Value(v as u8, next),
-        Number::Malformed => Byte::Malformed,
-    }
-}
-
-// A line of n fixing bytes, into the front of `out`.
-pub fn read_fixings(text: &[u8], at: usize, n: usize, out: &mut [u8; 64]) -> Line
-    requires { (n ≤ 64) × (length out.old ≡ 64) }
-    ensures { seen_line text.now (take n out.new) result ≡ line number8 n (drop at text.now) }
-{
-    if n == 0 {
-        return read_empty(text, at);
-    }
-    let mut p = at;
-    let mut i = 0;
-    while i < n {
-        let Byte::Value(w, next) = read_u8(text, p, end_of(n - i - 1)) else {
-            return Line::Malformed;
-        };
-        out[i] = w;
-        p = next;
-        i = i + 1;
-    }
-    Line::Read(p)
+        rest,
+    ))
 }
 
 // The lines of k terms.
-pub fn read_terms(
-    text: &[u8],
-    at: usize,
-    k: usize,
-    firsts: &mut [u32; 1024],
-    seconds: &mut [u32; 1024],
-    weights: &mut [i64; 1024],
-) -> Line
-    requires { (k ≤ 1024) × (length firsts.old ≡ 1024) × (length seconds.old ≡ 1024) × (length weights.old ≡ 1024) }
-    ensures { seen_terms text.now (take k firsts.new) (take k seconds.new) (take k weights.new) result ≡ terms [] [] [] k (drop at text.now) }
+fn read_terms(k: usize, text: &[u8]) -> Option<(Terms, &[u8])>
+    requires { k ≤ 1024 }
+    ensures { turned (terms_in k) (seen result) ≡ terms [] [] [] k text.now }
 {
-    let mut p = at;
-    let mut m = 0;
-    while m < k {
-        let Narrow::Value(i, a) = read_u32(text, p, 32) else {
-            return Line::Malformed;
-        };
-        let Narrow::Value(j, b) = read_u32(text, a, 32) else {
-            return Line::Malformed;
-        };
-        let Signed::Value(w, c) = decimal::read_signed(text, b, 10) else {
-            return Line::Malformed;
-        };
-        firsts[m] = i;
-        seconds[m] = j;
-        weights[m] = w;
-        p = c;
-        m = m + 1;
+    let mut read = Terms {
+        firsts: [0; 1024],
+        seconds: [0; 1024],
+        weights: [0; 1024],
+    };
+    let mut rest = text;
+    for m in 0..k {
+        let (i, after) = u32::read(rest, b' ')?;
+        let (j, after) = u32::read(after, b' ')?;
+        let (w, after) = i64::read(after, b'\n')?;
+        read.firsts[m] = i;
+        read.seconds[m] = j;
+        read.weights[m] = w;
+        rest = after;
     }
-    Line::Read(p)
+    Some((read, rest))
 }
 
-// What a text gives, or the number of its refusal.
-#[derive(Clone, Copy)]
-pub enum Parsed {
-    Given(Head),
-    Refused(u8),
-}
-
-// The lines after the first, into the fronts of the arrays.
-fn read_lists(
-    text: &[u8],
-    at: usize,
-    h: Head,
-    weights: &mut [i64; 64],
-    fixings: &mut [u8; 64],
-    firsts: &mut [u32; 1024],
-    seconds: &mut [u32; 1024],
-    term_weights: &mut [i64; 1024],
-) -> Parsed
-    requires { (h.n ≤ 64) × (h.terms ≤ 1024) × Lengths weights.old fixings.old firsts.old seconds.old term_weights.old }
-    ensures { ParsesInto weights.new fixings.new firsts.new seconds.new term_weights.new result (after_weights (head_of h) (line weight h.n (drop at text.now))) }
+// The lines after the first.
+#[tactic(auto, unfolding(rules::specs::ReadText::after_weights, rules::specs::ReadText::after_fixings, rules::specs::ReadText::last))]
+fn read_lists(head: Head, text: &[u8]) -> Option<Text>
+    requires { (head.n ≤ 64) × (head.terms ≤ 1024) }
+    ensures { seen_lists result ≡ after_weights (head_of head) (line weight head.n text.now) }
 {
-    let n = h.n as usize;
-    let Line::Read(a) = read_weights(text, at, n, weights) else {
-        return Parsed::Refused(13);
-    };
-    let Line::Read(b) = read_fixings(text, a, n, fixings) else {
-        return Parsed::Refused(13);
-    };
-    let Line::Read(c) = read_terms(text, b, h.terms as usize, firsts, seconds, term_weights) else {
-        return Parsed::Refused(13);
-    };
-    if c < text.len() {
-        return Parsed::Refused(13);
-    }
-    Parsed::Given(h)
-}
-
-// The objective of a text, into the fronts of the arrays, or the number of its refusal.
-fn parse_into(
-    text: &[u8],
-    weights: &mut [i64; 64],
-    fixings: &mut [u8; 64],
-    firsts: &mut [u32; 1024],
-    seconds: &mut [u32; 1024],
-    term_weights: &mut [i64; 1024],
-) -> Parsed
-    requires { Lengths weights.old fixings.old firsts.old seconds.old term_weights.old }
-    ensures { ParsesInto weights.new fixings.new firsts.new seconds.new term_weights.new result (input text.now) }
-{
-    if 32768 < text.len() {
-        return Parsed::Refused(13);
-    }
-    let First::Read(h, at) = read_head(text) else {
-        return Parsed::Refused(13);
-    };
-    if 64 < h.n {
-        return Parsed::Refused(1);
-    }
-    if 1024 < h.terms {
-        return Parsed::Refused(13);
-    }
-    read_lists(text, at, h, weights, fixings, firsts, seconds, term_weights)
-}
-
-// A text, read; its lists stand at the fronts of the arrays.
-#[derive(Clone, Copy)]
-pub struct Text {
-    pub parsed: Parsed,
-    pub weights: [i64; 64],
-    pub fixings: [u8; 64],
-    pub firsts: [u32; 1024],
-    pub seconds: [u32; 1024],
-    pub term_weights: [i64; 1024],
-}
-
-pub fn parse(text: &[u8]) -> Text
-    ensures { Parses result (input text.now) }
-{
+    let n = head.n as usize;
     let mut weights = [0i64; 64];
     let mut fixings = [0u8; 64];
-    let mut firsts = [0u32; 1024];
-    let mut seconds = [0u32; 1024];
-    let mut term_weights = [0i64; 1024];
-    let parsed = parse_into(
-        text,
-        &mut weights,
-        &mut fixings,
-        &mut firsts,
-        &mut seconds,
-        &mut term_weights,
-    );
-    Text {
-        parsed,
+    let rest = read_line(text, &mut weights[..n])?;
+    let rest = read_line(rest, &mut fixings[..n])?;
+    let (terms, rest) = read_terms(head.terms as usize, rest)?;
+    rest.is_empty().then_some(Text {
+        head,
         weights,
         fixings,
-        firsts,
-        seconds,
-        term_weights,
+        terms,
+    })
+}
+
+// The objective of a text, or its refusal.
+#[tactic(auto, unfolding(rules::specs::ReadText::input, rules::specs::ReadText::after_head))]
+pub fn parse(text: &[u8]) -> Result<Text, Refusal>
+    ensures { seen_input result ≡ input text.now }
+{
+    if text.len() > 32768 {
+        return Err(Refusal::Text);
     }
+    let (head, rest) = read_head(text).ok_or(Refusal::Text)?;
+    if head.n > 64 {
+        return Err(Refusal::Decisions);
+    }
+    if head.terms > 1024 {
+        return Err(Refusal::Text);
+    }
+    read_lists(head, rest).ok_or(Refusal::Text)
 }

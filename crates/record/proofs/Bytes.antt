@@ -1,68 +1,52 @@
--- Numbers as bytes: the turns of the loops that write and read them, and two's complement as the code has it.
+-- Numbers as bytes, as the code reads and writes them; and the check, one byte on.
 -- Assumes nothing.
-use Rattle.std.proofs.Common.{◌≡◌, ℕ, suc, ◌+◌, ◌-◌, ◌*◌, ◌/◌, ◌%◌, ◌^◌, ◌<◌, ◌≤◌, true, false, List, length, get_or, take, drop, set, ℤ, pos, negsuc, ◌+ℤ◌, ◌-ℤ◌, nat_abs, refl, ap, ◌∙◌, sub-eq-zero_of_le, add-one, arith, drop_of_length-le, length-take, drop-cons, w64, to_z, ltb-true, le-ltb, lt-ltb}
-use native.Mathlib.Nat.{pow-le-pow_right, sub_self}
-use lib.Seq.{sets}
-use lib.Signed.{lt_z}
-use Rattle.whole.specs.Ints.{ints, abs_step}
-use Rattle.whole.specs.Counts.{one_left, next_place}
-use Rattle.record_laws.specs.Bytes.{Bytes, bytes_front, from_below}
+use Rattle.std.proofs.Common.{◌≡◌, refl, sym, ap, ap₂, ◌∙◌, ℕ, zero, suc, ◌+◌, ◌-◌, ◌/◌, ◌%◌, ◌^◌, ◌<◌, ◌≤◌, List, [], ◌∷◌, length, get_or, drop, add-one, div-one, arith, drop-cons, drop_of_length-le, w16, w64, pow-suc, to_z, of_z, ℤ, pos, negsuc, Bool, true, false, cond, ltb}
+use mir.Val.{sel}
+use Rattle.std.proofs.Math.Nat.{div-div-eq-div-mul}
+use Rattle.std.specs.Int.{bytes_low_first, byte_at, to_le_bytes, from_le_bytes}
 use Rattle.rules.specs.Record.{little, from_little, twos, from_twos, sums}
 
--- ---- writing: the lowest byte, then the rest
-pub little_next : (l : List ℕ) (at k n v : ℕ) → k < n → sets l (at + k) (little (n - k) v) ≡ sets (set l (at + k) (v % 256)) (at + (k + 1)) (little (n - (k + 1)) (v / 256))
+-- byte by byte, the lowest first
+low_first : (i k n : ℕ) → bytes_low_first i k n ≡ little k (n / 256 ^ i)
 unfolding little
-little_next l at k n v h =
-    ap (λ (m : ℕ). sets l (at + k) (little m v)) (one_left n k h) ∙ ap (λ (j : ℕ). sets (set l (at + k) (v % 256)) j (little (n - (k + 1)) (v / 256))) (next_place at k)
+low_first i zero n = refl
+low_first i (suc k) n = ap₂ (λ (b : ℕ) (bs : List ℕ). b ∷ bs) (here i) (low_first (suc i) k n ∙ ap (little k) (next i))
+  where
+    here : (i : ℕ) → byte_at i n ≡ n / 256 ^ i % 256
+    here zero = rw (div-one n)
+    here (suc i) = refl
 
-pub little_over : (l : List ℕ) (at k n v : ℕ) → n ≤ k → sets l (at + k) (little (n - k) v) ≡ l
-unfolding little
-little_over l at k n v h = rw (sub-eq-zero_of_le h)
+    next : (i : ℕ) → n / 256 ^ suc i ≡ n / 256 ^ i / 256
+    next i = ap (λ (m : ℕ). n / m) (pow-suc 256 i) ∙ sym (div-div-eq-div-mul n (256 ^ i) 256)
 
--- ---- reading, the highest byte first
-pub from_none : (b : List ℕ) (at n : ℕ) → 0 ≡ from_little (take (n - n) (drop (at + n) b))
+pub two_bytes : (n : ℕ) → to_le_bytes w16 n ≡ little 2 n
+two_bytes n = low_first 0 2 n ∙ ap (little 2) (div-one n)
+
+pub eight_bytes : (n : ℕ) → to_le_bytes w64 n ≡ little 8 n
+eight_bytes n = low_first 0 8 n ∙ ap (little 8) (div-one n)
+
+pub from_two : (a b : ℕ) → from_le_bytes w16 (a ∷ b ∷ []) ≡ from_little (a ∷ b ∷ [])
 unfolding from_little
-from_none b at n = rw (sub_self n)
+from_two a b = omega arith
 
-pub from_next : (b : List ℕ) (at k n v : ℕ) → 0 < k → k ≤ n → at + n ≤ length b → v ≡ from_little (take (n - k) (drop (at + k) b))
-    → 256 * v + get_or b (at + (k - 1)) 0 ≡ from_little (take (n - (k - 1)) (drop (at + (k - 1)) b))
+pub from_eight : (bs : List ℕ) → length bs ≡ 8 → from_le_bytes w64 bs ≡ from_little bs
 unfolding from_little
-from_next b at k n v h g l e =
-    let i : n - (k - 1) ≡ suc (n - k) = omega arith in
-    let j : suc (at + (k - 1)) ≡ at + k = omega arith in
-    let x : at + (k - 1) < length b = omega arith in
-    rw (i, drop-cons b (at + (k - 1)) 0 x, j, e) (omega arith)
-
--- one byte more than 7 fits
-pub from_room : (n : ℕ) (b : List ℕ) → Bytes b → n ≤ 7 → from_little (take n b) < 2 ^ 56
-from_room n b h l =
-    let k : length (take n b) ≤ 7 = rw length-take (omega arith) in
-    let e : 256 ^ length (take n b) ≤ 256 ^ 7 = pow-le-pow_right (omega arith) k in
-    omega (arith, from_below (take n b) (bytes_front n b h))
+from_eight (a ∷ b ∷ c ∷ d ∷ e ∷ f ∷ g ∷ h ∷ []) l = omega arith
+from_eight _ l = absurd (omega arith)
 
 -- ---- two's complement
-pub twos_neg : (z : ℤ) → lt_z z (pos 0) ≡ true → 18446744073709551615 - nat_abs (pos 0 -ℤ (z +ℤ pos 1)) ≡ twos z
+pub unsigned : (z : ℤ) → of_z w64 z ≡ twos z
 unfolding twos
-twos_neg (pos a) h = absurd (omega (arith, ltb-true a 0 h))
-twos_neg (negsuc a) h =
-    let e : nat_abs (pos 0 -ℤ (negsuc a +ℤ pos 1)) ≡ a = omega (arith, abs_step (negsuc a) h) in
-    rw e
+unsigned (pos a) = refl
+unsigned (negsuc a) = omega arith
 
-pub twos_pos : (z : ℤ) → lt_z z (pos 0) ≡ false → nat_abs z ≡ twos z
-unfolding twos
-twos_pos (pos a) h = refl
-twos_pos (negsuc a) h = let y : ◌≡◌ {A = ℕ} 0 1 = cc in absurd (omega arith)
-
-pub half : (v : ℕ) → v < 2 ^ 63 → to_z w64 v ≡ pos v
-half v h = rw (lt-ltb v (2 ^ 63) h)
-
-pub of_low : (v : ℕ) → v < 2 ^ 63 → pos v ≡ from_twos v
+pub signed : (v : ℕ) → to_z w64 v ≡ from_twos v
 unfolding from_twos
-of_low v h = rw (lt-ltb v (2 ^ 63) h)
-
-pub of_high : (v : ℕ) → 2 ^ 63 ≤ v → (pos 0 -ℤ pos (18446744073709551615 - v)) -ℤ pos 1 ≡ from_twos v
-unfolding from_twos
-of_high v h = rw (le-ltb v (2 ^ 63) h) (simp ints (omega arith))
+signed v = by (ltb v (2 ^ 63))
+  where
+    by : (b : Bool) → sel b (pos v) (negsuc (2 ^ 64 - suc v)) ≡ cond b (pos v) (negsuc (2 ^ 64 - 1 - v))
+    by true = refl
+    by false = let e : 2 ^ 64 - suc v ≡ 2 ^ 64 - 1 - v = omega arith in ap negsuc e
 
 -- ---- the check, one byte on
 pub sums_turn : (l : List ℕ) (k s t s' t' : ℕ) → k < length l → s' ≡ (s + get_or l k 0) % 2 ^ 16 → t' ≡ (t + s') % 2 ^ 16

@@ -1,4 +1,3 @@
 pub mod Bytes
-pub mod Fields
-pub mod Rows
 pub mod Stores
+pub mod Rows

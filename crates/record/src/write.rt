@@ -1,100 +1,64 @@
 // A record is written as a block.
-ghost use Rattle.std.specs.Prelude.{◌≡◌, ◌+◌, ◌≤◌, [], ◌∷◌, length, replicate};
+ghost use Rattle.std.specs.Prelude.{◌≡◌};
 ghost use Rattle.std.proofs.lemmas.List.Edits.{sets};
-ghost use Rattle.rules.specs.Record.{edition, step_bytes, steps_bytes, body, block_of};
+ghost use Rattle.rules.specs.Record.{step_bytes, steps_bytes, body, block_of};
+ghost use Rattle.rules.specs.Numbers.{answer_of};
 ghost use Rattle.record.specs.Promises.{Writes};
 
-use crate::{number, sums};
-use rules::{Record, Step};
+use crate::sums;
+use refusal::row;
+use rules::{Record, Refusal, Step};
 
 // "decision, degree d, three neighbours, choices": the layout of a step, written.
-fn put_step(block: &mut [u8], at: usize, s: Step)
-    requires { at + 6 ≤ length block.old }
-    ensures { block.new ≡ sets block.old at (step_bytes s) }
+fn step_bytes(s: Step) -> [u8; 6]
+    ensures { result ≡ step_bytes s }
 {
-    block[at] = s.decision;
-    block[at + 1] = s.degree;
-    block[at + 2] = s.first;
-    block[at + 3] = s.second;
-    block[at + 4] = s.third;
-    block[at + 5] = s.choices;
+    [s.decision, s.degree, s.first, s.second, s.third, s.choices]
 }
 
-fn put_steps(block: &mut [u8], r: Record)
-    requires { length block.old ≡ 512 }
-    ensures { block.new ≡ sets block.old 76 (steps_bytes r.steps) }
+fn put_steps(body: &mut [u8; 508], steps: [Step; 64])
+    ensures { body.new ≡ sets body.old 76 (steps_bytes steps) }
 {
-    let mut k: usize = 0;
-    while k < 64 {
-        put_step(block, 76 + 6 * k, r.steps[k]);
-        k = k + 1;
+    for (k, s) in steps.iter().enumerate() {
+        let at = 76 + 6 * k;
+        body[at..at + 6].copy_from_slice(&step_bytes(*s));
     }
 }
 
-fn put_states(block: &mut [u8], r: Record)
-    requires { length block.old ≡ 512 }
-    ensures { block.new ≡ sets block.old 12 r.states }
+// "0: edition, 3. 1: n. 2: number of steps. 3: zero. 4–11: constant .. 12–75: a state for each decision .. 76–459: 64 steps .. 460–507: zero."
+fn body_of(record: Record) -> [u8; 508]
+    ensures { result ≡ body «record» }
 {
-    let mut k: usize = 0;
-    while k < 64 {
-        block[12 + k] = r.states[k];
-        k = k + 1;
-    }
+    let mut body = [0; 508];
+    body[0] = 3;
+    body[1] = record.n;
+    body[2] = record.count;
+    body[4..12].copy_from_slice(&record.constant.to_le_bytes());
+    body[12..76].copy_from_slice(&record.states);
+    put_steps(&mut body, record.steps);
+    body
 }
 
-fn put_zeros(block: &mut [u8])
-    requires { length block.old ≡ 512 }
-    ensures { block.new ≡ sets block.old 460 (replicate 48 0) }
+// The whole block: its body and the check.
+pub fn block_of(record: Record) -> [u8; 512]
+    ensures { result ≡ block_of «record» }
 {
-    let mut k: usize = 0;
-    while k < 48 {
-        block[460 + k] = 0;
-        k = k + 1;
-    }
+    let body = body_of(record);
+    let sums = sums::sums_of(&body);
+    let [a, b] = sums.s1.to_le_bytes();
+    let [c, d] = sums.s2.to_le_bytes();
+    let mut block = [0; 512];
+    block[..508].copy_from_slice(&body);
+    block[508..512].copy_from_slice(&[a, b, c, d]);
+    block
 }
 
-// "0: edition, 3. 1: n. 2: number of steps. 3: zero."
-fn put_head(block: &mut [u8], r: Record)
-    requires { length block.old ≡ 512 }
-    ensures { block.new ≡ sets block.old 0 (edition ∷ r.n ∷ r.count ∷ 0 ∷ []) }
+// The block, or a refusal and the output as it was.
+pub fn write_record(record: Record, block: &mut [u8]) -> Result<(), Refusal>
+    ensures { Writes «record» block.old (answer_of result) block.new }
 {
-    block[0] = 3;
-    block[1] = r.n;
-    block[2] = r.count;
-    block[3] = 0;
-}
-
-// The first 508 bytes.
-fn put_body(block: &mut [u8], r: Record)
-    requires { length block.old ≡ 512 }
-    ensures { block.new ≡ sets block.old 0 (body r) }
-{
-    put_head(block, r);
-    number::put_little(block, 4, 8, number::to_twos(r.constant));
-    put_states(block, r);
-    put_steps(block, r);
-    put_zeros(block);
-}
-
-// The whole block.
-pub fn put_record(block: &mut [u8], record: Record)
-    requires { length block.old ≡ 512 }
-    ensures { block.new ≡ block_of «record» }
-{
-    put_body(block, record);
-    sums::put_sums(block);
-}
-
-// 0 and the block, or a refusal's number and the output as it was.
-pub fn write_record(record: Record, block: &mut [u8]) -> u8
-    ensures { Writes «record» block.old result block.new }
-{
-    if block.len() != 512 {
-        return 9;
-    }
-    if broken::is_broken(record) {
-        return 12;
-    }
-    put_record(block, record);
-    0
+    row(block.len() != 512, Refusal::BlockLength)?;
+    row(broken::is_broken(record), Refusal::Body)?;
+    block.copy_from_slice(&block_of(record));
+    Ok(())
 }

@@ -1,25 +1,30 @@
 -- What the call gives, and what it leaves in the lent outputs, which held l and e.
 -- Assumes nothing.
-use Rattle.std.specs.Prelude.{◌≡◌, List, ℕ, ◌+◌, length, ℤ}
+use Rattle.std.specs.Prelude.{◌≡◌, Bool, List, ◌++◌, ℕ, ◌+◌, ◌-◌, length, replicate, ℤ, Result}
 use Rattle.std.proofs.Common.{sym, ◌∙◌}
+use Rattle.rules.specs.Graph.{Graph}
 use Rattle.rules.specs.Objective.{Objective}
 use Rattle.rules.specs.Outcome.{outcome}
-use Rattle.rules.specs.Call.{reported, reduction, linear_after, edges_after}
+use Rattle.rules.specs.Record.{no_step}
+use Rattle.rules.specs.Refuse.{reduce_refusal}
+use Rattle.rules.specs.Call.{Answered, reported, reduction, linear_after, edges_after}
 use Rattle.rules.specs.declared.Counts.{Counts}
 use Rattle.rules.specs.declared.Record.{Record}
 use Rattle.rules.specs.declared.Reduction.{Reduction}
+use Rattle.rules.specs.declared.Step.{Step}
+use Rattle.rules.specs.declared.refusal.Refusal.{Refusal}
+use Rattle.accepted_laws.specs.Answers.{answered_one}
 use Rattle.state.specs.declared.State.{State}
-use Rattle.state.specs.declared.steps.Steps.{Steps}
-use Rattle.run.specs.declared.Ended.{Ended}
+use Rattle.run.specs.declared.Reached.{Reached}
 
-pub record Gives (o : Objective) (l e : List ℤ) (r : Reduction) (l' e' : List ℤ) : Type 0 where
-  pub reduction : r ≡ reduction o (length l) (length e)
+pub record Gives (o : Objective) (l e : List ℤ) (r : Result Reduction Refusal) (l' e' : List ℤ) : Type 0 where
+  pub reduction : Answered (reduce_refusal o (length l) (length e)) (reduction o) r
   pub linear : l' ≡ linear_after o l e
   pub edges : e' ≡ edges_after o l e
 
 -- any two results that meet the contract are equal
-pub only_one : (o : Objective) (l e : List ℤ) (r s : Reduction) (l₁ l₂ e₁ e₂ : List ℤ) → Gives o l e r l₁ e₁ → Gives o l e s l₂ e₂ → (r ≡ s) × (l₁ ≡ l₂) × (e₁ ≡ e₂)
-only_one o l e r s l₁ l₂ e₁ e₂ g h = (g.reduction ∙ sym h.reduction, g.linear ∙ sym h.linear, g.edges ∙ sym h.edges)
+pub only_one : (o : Objective) (l e : List ℤ) (r s : Result Reduction Refusal) (l₁ l₂ e₁ e₂ : List ℤ) → Gives o l e r l₁ e₁ → Gives o l e s l₂ e₂ → (r ≡ s) × (l₁ ≡ l₂) × (e₁ ≡ e₂)
+only_one o l e r s l₁ l₂ e₁ e₂ g h = (answered_one r s g.reduction h.reduction, g.linear ∙ sym h.linear, g.edges ∙ sym h.edges)
 
 -- the same of an objective that is not refused
 pub record Done (o : Objective) (r : Reduction) (l e : List ℤ) : Type 0 where
@@ -28,8 +33,14 @@ pub record Done (o : Objective) (r : Reduction) (l e : List ℤ) : Type 0 where
   pub edges : e ≡ (outcome o).edges
 
 -- ---- the parts of a reduction, from where the code's run ended
-abbrev pub record_from : State → List ℕ → Steps → Record
-record_from s states made = record { n = s.frame.n; count = made.count; constant = s.frame.constant; states = states; steps = made.list }
+abbrev pub record_from : Graph → List Step → Record
+record_from g made = record {
+  n = g.n;
+  count = length made;
+  constant = g.constant;
+  states = g.states;
+  steps = made ++ replicate (64 - length made) no_step;
+}
 
 abbrev pub counts_from : State → ℕ → Counts
 counts_from s remaining = record {
@@ -45,13 +56,12 @@ counts_from s remaining = record {
   block_variables = s.tally.in_blocks;
 }
 
-abbrev pub report_from : Ended → List ℕ → ℕ → Reduction
-report_from r states remaining = record {
-  answer = 0;
-  «record» = record_from r.state states r.steps;
-  counts = counts_from r.state remaining;
-  takes = r.state.takes;
-  blocks = r.state.blocks;
-  units = r.state.takes + r.state.blocks;
-  complete = r.complete;
+abbrev pub report_from : Graph → Reached → ℕ → Bool → Reduction
+report_from g at remaining complete = record {
+  «record» = record_from g at.steps;
+  counts = counts_from at.state remaining;
+  takes = at.state.takes;
+  blocks = at.state.blocks;
+  units = at.state.takes + at.state.blocks;
+  complete = complete;
 }

@@ -1,161 +1,88 @@
-// The refusal table of an objective: "given exactly when its row holds and no row above it does". Each test is asked.
+// The refusal table of an objective: "given exactly when its row holds and no row above it does". Each test is asked in its order.
 #![tactic(auto)]
 
-ghost use Rattle.std.specs.Prelude.{◌≡◌, cond, ◌||◌, [], ◌∷◌, ◌+◌, ◌≤◌, min, leb};
-ghost use Rattle.whole.specs.Words.{some, one_of};
-ghost use Rattle.rules.specs.Objective.{objective, weight_of};
-ghost use Rattle.rules.specs.Refuse.{first_row, over, bad_lengths, list_rows, reduce_rows};
-ghost use Rattle.rules.specs.Call.{unless};
+ghost use Rattle.std.specs.Prelude.{◌≡◌, cond, ◌+◌, ◌≤◌, min, leb};
+ghost use Rattle.whole.specs.Words.{some};
+ghost use Rattle.rules.specs.Objective.{weight_of};
+ghost use Rattle.rules.specs.Refuse.{first_row, over, bad_lengths, bad_index, bad_lent, too_heavy, list_rows, reduce_rows};
+ghost use Rattle.rules.specs.Numbers.{number_of, answer_of};
+ghost use Rattle.rules.specs.Given.{of_lists};
 
-pub fn either(a: bool, b: bool) -> bool
-    ensures { result ≡ (a || b) }
-{
-    if a {
-        return true;
-    }
-    b
-}
+use rules::{Objective, Refusal};
 
-// A row's number where it holds, else what the rows below it give.
-pub fn row(number: u8, held: bool, below: u8) -> u8
-    ensures { result ≡ cond held number below }
+// A row of the table: its refusal where it holds.
+pub fn row(held: bool, refusal: Refusal) -> Result<(), Refusal>
+    ensures { answer_of result ≡ cond held (number_of refusal) 0 }
 {
     if held {
-        return number;
+        return Err(refusal);
     }
-    below
+    Ok(())
 }
 
-// What the rows above give; where none of them holds, what those below give.
-pub fn first_of(above: u8, below: u8) -> u8
-    ensures { result ≡ unless above below above }
-{
-    if above != 0 {
-        return above;
-    }
-    below
-}
-
-// Is one of these n or more?
-fn any_from(list: &[u32], n: u32) -> bool
-    ensures { result ≡ some (leb n) list.now }
-{
-    let mut k: usize = 0;
-    while k < list.len() {
-        if list[k] >= n {
-            return true;
-        }
-        k = k + 1;
-    }
-    false
-}
-
-// Is one of these over the limit?
-pub fn any_over(list: &[u8], limit: u8) -> bool
-    ensures { result ≡ some (over limit) list.now }
-{
-    let mut k: usize = 0;
-    while k < list.len() {
-        if list[k] > limit {
-            return true;
-        }
-        k = k + 1;
-    }
-    false
-}
-
-// The weight of the list and what came before it, no further than one over 2^40, so that no sum overflows.
-fn weigh(start: u64, w: &[i64]) -> u64
+// The weight of the list and what came before it, no further than one over 2^40.
+fn weigh(start: u64, weights: &[i64]) -> u64
     requires { start ≤ 1099511627777 }
-    ensures { result ≡ min 1099511627777 (start + weight_of w.now) }
+    ensures { result ≡ min 1099511627777 (start + weight_of weights.now) }
 {
-    let mut s: u64 = start;
-    let mut i: usize = 0;
-    while i < w.len() {
-        let m = decimal::magnitude(w[i]);
-        if m > 1099511627777 - s {
-            return 1099511627777;
-        }
-        s = s + m;
-        i = i + 1;
+    let mut sum = start;
+    for w in weights {
+        sum = sum.saturating_add(w.unsigned_abs()).min(1099511627777);
     }
-    s
+    sum
 }
 
 // Row 2; `others`: another length that the caller has is wrong.
-fn bad_lengths(
-    n: u32,
-    weights: &[i64],
-    firsts: &[u32],
-    seconds: &[u32],
-    term_weights: &[i64],
-    others: bool,
-) -> bool
-    ensures { result ≡ bad_lengths (objective n weights.now firsts.now seconds.now term_weights.now [] 0 0) others }
+#[tactic(auto, unfolding(rules::specs::Refuse::bad_lengths, whole::specs::Words::one_of))]
+fn bad_lengths(o: Objective, others: bool) -> bool
+    ensures { result ≡ bad_lengths (of_lists o.entry) others }
 {
-    let size = n as usize;
-    let terms = firsts.len();
-    let many = either(terms > 4096, either(others, false));
-    let lists = either(
-        seconds.len() != terms,
-        either(term_weights.len() != terms, many),
-    );
-    either(weights.len() != size, lists)
+    let terms = o.firsts.len();
+    o.weights.len() != o.n as usize
+        || o.seconds.len() != terms
+        || o.term_weights.len() != terms
+        || terms > 4096
+        || others
 }
 
 // Row 3.
-fn bad_index(n: u32, firsts: &[u32], seconds: &[u32]) -> bool
-    ensures { result ≡ one_of (some (leb n) firsts.now ∷ some (leb n) seconds.now ∷ []) }
+fn bad_index(o: Objective) -> bool
+    ensures { result ≡ bad_index (of_lists o.entry) }
 {
-    let first = any_from(firsts, n);
-    let second = any_from(seconds, n);
-    either(first, either(second, false))
+    o.firsts.iter().any(|i| *i >= o.n) || o.seconds.iter().any(|i| *i >= o.n)
 }
 
 // Row 6.
-pub fn too_heavy(weights: &[i64], term_weights: &[i64]) -> bool
-    ensures { result ≡ over 1099511627776 (weight_of weights.now + weight_of term_weights.now) }
+pub fn too_heavy(o: Objective) -> bool
+    ensures { result ≡ too_heavy (of_lists o.entry) }
 {
-    let linear = weigh(0, weights);
-    weigh(linear, term_weights) > 1099511627776
+    weigh(weigh(0, o.weights), o.term_weights) > 1099511627776
 }
 
 // Rows 1 to 3, which every objective has.
-pub fn list_rows(
-    n: u32,
-    weights: &[i64],
-    firsts: &[u32],
-    seconds: &[u32],
-    term_weights: &[i64],
-    others: bool,
-) -> u8
-    ensures { result ≡ first_row (list_rows (objective n weights.now firsts.now seconds.now term_weights.now [] 0 0) others) }
+#[tactic(auto, unfolding(rules::specs::Refuse::first_row))]
+pub fn list_rows(o: Objective, others: bool) -> Result<(), Refusal>
+    ensures { answer_of result ≡ first_row (list_rows (of_lists o.entry) others) }
 {
-    let three = row(3, bad_index(n, firsts, seconds), 0);
-    let lengths = bad_lengths(n, weights, firsts, seconds, term_weights, others);
-    row(1, n > 64, row(2, lengths, three))
+    row(o.n > 64, Refusal::Decisions)?;
+    row(bad_lengths(o, others), Refusal::Lengths)?;
+    row(bad_index(o), Refusal::Index)
 }
 
-// The first row of reduce's that holds; 0: none does.
-pub fn refusal(
-    n: u32,
-    weights: &[i64],
-    firsts: &[u32],
-    seconds: &[u32],
-    term_weights: &[i64],
-    fixings: &[u8],
-    switches: u32,
-    budget: u32,
-    l: usize,
-    e: usize,
-    others: bool,
-) -> u8
-    ensures { result ≡ first_row (reduce_rows (objective n weights.now firsts.now seconds.now term_weights.now fixings.now switches budget) l e others) }
+// What reduce asks of lengths besides; `others`: another length that the caller has is wrong.
+#[tactic(auto, unfolding(rules::specs::Refuse::bad_lent, whole::specs::Words::one_of))]
+fn bad_lent(o: Objective, l: usize, e: usize, others: bool) -> bool
+    ensures { result ≡ bad_lent (of_lists o.entry) l e others }
 {
-    let outputs = either(l != 64, either(e != 4096, either(others, false)));
-    let lent = either(fixings.len() != n as usize, outputs);
-    let lists = list_rows(n, weights, firsts, seconds, term_weights, lent);
-    let six = row(6, too_heavy(weights, term_weights), 0);
-    let five = row(5, switches > 15, six);
-    first_of(lists, row(4, any_over(fixings, 2), five))
+    o.fixings.len() != o.n as usize || l != 64 || e != 4096 || others
+}
+
+// The first row of reduce's that holds.
+pub fn refusal(o: Objective, l: usize, e: usize, others: bool) -> Result<(), Refusal>
+    ensures { answer_of result ≡ first_row (reduce_rows (of_lists o.entry) l e others) }
+{
+    list_rows(o, bad_lent(o, l, e, others))?;
+    row(o.fixings.iter().any(|x| *x > 2), Refusal::Fixing)?;
+    row(o.switches > 15, Refusal::Switches)?;
+    row(too_heavy(o), Refusal::Weight)
 }

@@ -1,6 +1,6 @@
 -- 01, "Growing back" and projecting. `states` is n long.
 -- Assumes nothing.
-use Rattle.std.specs.Prelude.{Bool, true, false, cond, ℕ, ◌+◌, ◌*◌, ◌-◌, eqb, length, get_or, set, replicate}
+use Rattle.std.specs.Prelude.{cond, ℕ, ◌+◌, ◌*◌, ◌-◌, eqb, length, get_or, set, replicate}
 use mathlib.Core.List.{List, [], ◌∷◌, ◌++◌, map, tail}
 use Rattle.whole.specs.Words.{upto, those, bit, one_if}
 use Rattle.rules.specs.Eliminate.{Step}

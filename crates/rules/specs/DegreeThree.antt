@@ -1,6 +1,6 @@
 -- 01, "Degree three".
 -- Assumes nothing.
-use Rattle.std.specs.Prelude.{Bool, true, false, cond, not, List, [], ◌∷◌, ℕ, ◌-◌, ◌^◌, get_or, ℤ, pos, ◌-ℤ◌}
+use Rattle.std.specs.Prelude.{Bool, cond, not, List, [], ◌∷◌, ℕ, ◌-◌, ◌^◌, get_or, ℤ, ◌-ℤ◌}
 use Rattle.whole.specs.Words.{is_zero_z, bit}
 use Rattle.rules.specs.Graph.{Graph, neighbours, add_constant, add_linear, add_edge, drop_to}
 use Rattle.rules.specs.Eliminate.{tee}

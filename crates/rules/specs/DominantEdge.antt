@@ -1,6 +1,6 @@
 -- 01, "Dominant neighbour of i", and the substitution of the Rust's `contract`.
 -- Assumes nothing.
-use Rattle.std.specs.Prelude.{Bool, true, false, cond, ◌&&◌, ◌||◌, List, [], ◌∷◌, ℕ, eqb, ℤ, pos, ◌+ℤ◌, ◌-ℤ◌, neg_ℤ}
+use Rattle.std.specs.Prelude.{Bool, cond, ◌&&◌, ◌||◌, List, [], ◌∷◌, ℕ, eqb, ℤ, pos, ◌+ℤ◌, ◌-ℤ◌, neg_ℤ}
 use Rattle.std.specs.Int.Signed.{lt_z, le_z}
 use Rattle.whole.specs.Words.{is_zero_z, below0, above0}
 use Rattle.rules.specs.Graph.{Graph, lin, edge, neighbours, row, add_constant, add_linear, add_edge, drop_to}

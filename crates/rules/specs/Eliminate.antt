@@ -1,6 +1,6 @@
 -- 01, "Eliminate".
 -- Assumes nothing.
-use Rattle.std.specs.Prelude.{Bool, true, false, cond, List, [], ◌∷◌, ℕ, ◌^◌, length, ℤ, pos, ◌+ℤ◌, ◌-ℤ◌}
+use Rattle.std.specs.Prelude.{Bool, List, [], ◌∷◌, ℕ, ◌^◌, length, ℤ, pos, ◌+ℤ◌, ◌-ℤ◌}
 use Rattle.std.specs.Int.Signed.{lt_z}
 use Rattle.whole.specs.Words.{below0, chosen, bits_from}
 use Rattle.rules.specs.Graph.{Graph, lin, neighbours, row, add_constant, add_linear, add_edge, drop_to}

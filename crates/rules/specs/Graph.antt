@@ -2,7 +2,7 @@
 -- Weights stand as the code holds them: linear 64 long, edges 4,096 long with the edge of i and j at 64·i + j and at 64·j + i; 0 is no edge.
 -- States are those of the record block: 0 or 1 fixed, 2 active, 3 eliminated.
 -- Assumes nothing.
-use Rattle.std.specs.Prelude.{Bool, true, false, cond, not, List, [], ◌∷◌, ◌++◌, map, ℕ, zero, suc, ◌+◌, ◌*◌, ◌-◌, ltb, leb, eqb, length, get_or, set, replicate, ℤ, pos, ◌+ℤ◌}
+use Rattle.std.specs.Prelude.{Bool, cond, not, List, [], ◌∷◌, ◌++◌, map, ℕ, zero, suc, ◌+◌, ◌*◌, ◌-◌, eqb, length, get_or, set, replicate, ℤ, pos, ◌+ℤ◌}
 use Rattle.whole.specs.Words.{is_zero_z, upto, those}
 use Rattle.rules.specs.Objective.{Objective}
 

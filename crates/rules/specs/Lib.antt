@@ -1,4 +1,6 @@
+pub mod Numbers
 pub mod Objective
+pub mod Given
 pub mod Options
 pub mod Graph
 pub mod Fixing

@@ -1,6 +1,6 @@
 -- 01, "Outputs" and the counts: what a run that was not refused gives.
 -- Assumes nothing.
-use Rattle.std.specs.Prelude.{Bool, true, false, cond, ◌&&◌, List, [], ◌∷◌, ◌++◌, map, ℕ, ◌+◌, ◌*◌, ◌-◌, ◌/◌, ◌%◌, ltb, length, get_or, replicate, ℤ, pos}
+use Rattle.std.specs.Prelude.{Bool, cond, ◌&&◌, List, ◌++◌, map, ℕ, ◌+◌, ◌-◌, ◌/◌, ◌%◌, ltb, length, get_or, replicate, ℤ, pos}
 use Rattle.whole.specs.Words.{upto}
 use Rattle.rules.specs.Objective.{Objective}
 use Rattle.rules.specs.Graph.{Graph, lin, edge, actives}

@@ -1,7 +1,6 @@
 -- 01, the program: what it writes for a text.
 -- Assumes nothing.
-use Rattle.std.specs.Prelude.{List, ℕ, zero, suc}
-use Rattle.rules.specs.Objective.{Objective}
+use Rattle.std.specs.Prelude.{List, ℕ}
 use Rattle.rules.specs.Refuse.{reduce_refusal}
 use Rattle.rules.specs.Outcome.{outcome}
 use Rattle.rules.specs.Call.{unless}

@@ -1,7 +1,7 @@
 -- 01, "The program reads": its input text. A text is the list of its bytes.
 -- Each reader takes what is left of the text, and gives what it read and what is then left, or `bad`: the text is malformed.
 -- Assumes nothing.
-use Rattle.std.specs.Prelude.{Bool, true, false, cond, ◌&&◌, List, [], ◌∷◌, ◌++◌, ℕ, zero, suc, ◌+◌, ◌*◌, ◌-◌, ◌^◌, ltb, leb, eqb, length, ℤ, pos, neg_ℤ}
+use Rattle.std.specs.Prelude.{Bool, cond, ◌&&◌, List, [], ◌∷◌, ◌++◌, ℕ, zero, suc, ◌+◌, ◌*◌, ◌-◌, ◌^◌, ltb, leb, eqb, length, ℤ, pos, neg_ℤ}
 use Rattle.rules.specs.Objective.{Objective, objective}
 
 pub data Read (A : Type 0) : Type 0 where

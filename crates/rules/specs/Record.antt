@@ -1,7 +1,7 @@
 -- 01, "The record block": its bytes, its check, when a body is broken, reading and writing.
 -- Assumes nothing.
-use Rattle.std.specs.Prelude.{Bool, true, false, cond, not, ◌&&◌, ◌||◌, List, [], ◌∷◌, ◌++◌, map, ℕ, zero, suc, ◌+◌, ◌*◌, ◌-◌, ◌/◌, ◌%◌, ◌^◌, ltb, leb, eqb, length, get_or, take, drop, replicate, ℤ, pos, negsuc, nat_abs}
-use Rattle.whole.specs.Words.{from, upto, mem, some, all, all_of}
+use Rattle.std.specs.Prelude.{Bool, true, cond, not, ◌&&◌, ◌||◌, List, [], ◌∷◌, ◌++◌, map, ℕ, zero, suc, ◌+◌, ◌*◌, ◌-◌, ◌/◌, ◌%◌, ◌^◌, ltb, leb, eqb, length, get_or, take, drop, replicate, ℤ, pos, negsuc, nat_abs}
+use Rattle.whole.specs.Words.{from, upto, mem, all, all_of}
 use Rattle.rules.specs.Eliminate as rule
 use Rattle.rules.specs.declared.Step.{Step}
 use Rattle.rules.specs.declared.Record.{Record}

@@ -1,7 +1,7 @@
 -- The records of D and J: written and read again, damaged, and grown back as 01 prints it.
 -- Assumes nothing.
-use Rattle.std.specs.Prelude.{◌≡◌, refl, Bool, true, false, List, [], ◌∷◌, ◌++◌, map, ℕ, ◌-◌, length, set, replicate, ℤ, pos}
-use Rattle.whole.specs.Words.{neg, from, mem, those, some, all, all_of, one_of}
+use Rattle.std.specs.Prelude.{◌≡◌, refl, List, [], ◌∷◌, ◌++◌, map, ℕ, ◌-◌, length, set, replicate, ℤ}
+use Rattle.whole.specs.Words.{neg, from, mem, those, all, all_of}
 use Rattle.rules.specs.Eliminate.{Step, step}
 use Rattle.rules.specs.Back.{place, mask_of, play, play_all, grow_back, remaining_of, project}
 use Rattle.rules.specs.Record.{hold_all, record_of, steps_of, states_of, little, from_little, twos, from_twos, steps_bytes, body, record_in, sums, check, sealed, check_right, block_of, ascending, step_fine, sound, zeros_in}

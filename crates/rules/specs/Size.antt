@@ -1,6 +1,6 @@
 -- 01, "Size rule": what it gives at the end of every reduction.
 -- Assumes nothing.
-use Rattle.std.specs.Prelude.{ℕ, ◌≤◌, get_or, ℤ, pos}
+use Rattle.std.specs.Prelude.{ℕ, ◌≤◌, get_or, pos}
 use Rattle.whole.specs.Parts.{∣◌∣}
 use Rattle.rules.specs.Graph.{Graph, lin}
 

@@ -1,6 +1,6 @@
 -- 01, "Small block": the search, over each decision's neighbours and the active decisions only; then a block and its elimination.
 -- Assumes nothing.
-use Rattle.std.specs.Prelude.{Bool, true, false, cond, not, ◌&&◌, List, [], ◌∷◌, ◌++◌, ℕ, zero, suc, ◌-◌, ◌/◌, ◌^◌, leb, length, ℤ, pos, ◌+ℤ◌}
+use Rattle.std.specs.Prelude.{Bool, cond, not, ◌&&◌, List, [], ◌∷◌, ◌++◌, ℕ, zero, suc, ◌-◌, ◌/◌, ◌^◌, leb, length, ℤ, pos, ◌+ℤ◌}
 use Rattle.std.specs.Int.Signed.{lt_z}
 use Rattle.whole.specs.Words.{is_zero_z, odd, upto, mem, those, some, bit, chosen, bits_from}
 use Rattle.rules.specs.Graph.{Graph, lin, edge, actives, neighbours, row, drop_to}

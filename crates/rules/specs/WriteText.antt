@@ -1,6 +1,6 @@
 -- 01, "it writes exactly": what the program writes.
 -- Assumes nothing.
-use Rattle.std.specs.Prelude.{Bool, true, false, cond, not, ◌&&◌, List, [], ◌∷◌, ◌++◌, ℕ, zero, suc, ◌+◌, ◌*◌, ◌-◌, ◌/◌, ◌%◌, ◌^◌, ltb, leb, eqb, length, take, ℤ, pos, negsuc}
+use Rattle.std.specs.Prelude.{Bool, true, false, cond, not, ◌&&◌, List, [], ◌∷◌, ◌++◌, ℕ, zero, suc, ◌+◌, ◌/◌, ◌%◌, ◌^◌, ltb, length, take, ℤ, pos, negsuc}
 use Rattle.whole.specs.Words.{is_zero_z}
 use Rattle.rules.specs.Bytes.{bytes}
 use Rattle.rules.specs.Eliminate.{Step}

@@ -1,12 +1,18 @@
 // What the calls of 01-scope.md take and give back. The rules themselves stand in specs/.
 #![tactic(auto)]
 
+mod objective;
+mod refusal;
+
 ghost use Rattle.std.specs.Prelude.{◌≡◌};
 ghost use Rattle.rules.specs.Options.{options_of};
-ghost use Rattle.rules.specs.Record.{no_step, no_record};
+ghost use Rattle.rules.specs.Record.{no_record};
+
+pub use objective::Objective;
+pub use refusal::Refusal;
 
 // What a run is asked besides its objective: which reductions it makes.
-#[derive(Clone, Copy)]
+#[derive(Clone, Copy, Debug, PartialEq, Eq)]
 pub struct Options {
     pub low_degree: bool,
     pub degree_three: bool,
@@ -15,19 +21,21 @@ pub struct Options {
 }
 
 // "Switch bits: 0 low degree, 1 degree three, 2 dominant edge, 3 small block."
-pub fn options_of(switches: u32) -> Options
-    ensures { result ≡ options_of switches }
-{
-    Options {
-        low_degree: switches % 2 == 1,
-        degree_three: switches / 2 % 2 == 1,
-        dominant_edge: switches / 4 % 2 == 1,
-        small_block: switches / 8 % 2 == 1,
+impl From<u32> for Options {
+    ghost from_gives = { λ switches opt. opt ≡ options_of switches };
+
+    fn from(switches: u32) -> Options {
+        Options {
+            low_degree: switches % 2 == 1,
+            degree_three: switches / 2 % 2 == 1,
+            dominant_edge: switches / 4 % 2 == 1,
+            small_block: switches / 8 % 2 == 1,
+        }
     }
 }
 
-// A step as the record holds it: decision, degree d, three neighbours, choices (bit m for mask m).
-#[derive(Clone, Copy)]
+// A step as the record holds it: decision, degree d, three neighbours, choices (bit m for mask m). The default is one that is not used.
+#[derive(Clone, Copy, Debug, PartialEq, Eq, Default)]
 pub struct Step {
     pub decision: u8,
     pub degree: u8,
@@ -37,22 +45,8 @@ pub struct Step {
     pub choices: u8,
 }
 
-// A step that is not used.
-pub fn no_step() -> Step
-    ensures { result ≡ no_step }
-{
-    Step {
-        decision: 0,
-        degree: 0,
-        first: 0,
-        second: 0,
-        third: 0,
-        choices: 0,
-    }
-}
-
 // How to grow an answer back. `count` is the number of steps; a state for each decision: 0 or 1 fixed, 2 remaining, 3 eliminated.
-#[derive(Clone, Copy)]
+#[derive(Clone, Copy, Debug, PartialEq, Eq)]
 pub struct Record {
     pub n: u8,
     pub count: u8,
@@ -61,29 +55,23 @@ pub struct Record {
     pub steps: [Step; 64],
 }
 
-// What a refusal gives in place of one.
-pub fn no_record() -> Record
-    ensures { result ≡ no_record }
-{
-    let none = no_step();
-    Record {
-        n: 0,
-        count: 0,
-        constant: 0,
-        states: [0; 64],
-        steps: [none; 64],
+// One with no decision.
+impl Default for Record {
+    ghost is_default = { λ r. r ≡ no_record };
+
+    fn default() -> Record {
+        Record {
+            n: 0,
+            count: 0,
+            constant: 0,
+            states: [0; 64],
+            steps: [Step::default(); 64],
+        }
     }
 }
 
-// What reading a block gives: a refusal's number with an empty record, or 0 and the record.
-#[derive(Clone, Copy)]
-pub struct Reading {
-    pub answer: u8,
-    pub record: Record,
-}
-
 // The counts that a reduction adds to.
-#[derive(Clone, Copy)]
+#[derive(Clone, Copy, Debug, PartialEq, Eq, Default)]
 pub struct Tally {
     pub eliminated: u32,
     pub three: u32,
@@ -94,7 +82,7 @@ pub struct Tally {
 }
 
 // The counts of `RootReductionStatistics`, cut dominance aside.
-#[derive(Clone, Copy)]
+#[derive(Clone, Copy, Debug, PartialEq, Eq, Default)]
 pub struct Counts {
     pub eliminated: u32,
     pub degree_three_eliminated: u32,
@@ -108,10 +96,9 @@ pub struct Counts {
     pub block_variables: u32,
 }
 
-// What a reduction gives: a refusal's number with nothing else, or 0 and all of it.
-#[derive(Clone, Copy)]
+// All that a reduction gives.
+#[derive(Clone, Copy, Debug, PartialEq, Eq)]
 pub struct Reduction {
-    pub answer: u8,
     pub record: Record,
     pub counts: Counts,
     pub takes: u32,

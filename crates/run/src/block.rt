@@ -1,72 +1,43 @@
 // When nobody waits: the search for a small block, and its elimination.
-ghost use Rattle.std.specs.Prelude.{◌≡◌, ◌≤◌, take};
+ghost use Rattle.std.specs.Prelude.{◌≡◌, ◌+◌, ◌++◌, map, length};
+ghost use Rattle.rules.specs.Graph.{neighbours};
+ghost use Rattle.rules.specs.Counts.{members_gone, plus};
+ghost use Rattle.rules.specs.Record.{hold};
+ghost use Rattle.rules.specs.SmallBlock.{eliminate_block, block_steps};
 ghost use Rattle.cost_laws.specs.Growth.{Network};
-ghost use Rattle.small_block.specs.ByMasks.{near_by};
-ghost use Rattle.state.specs.Holds.{arrays};
-ghost use Rattle.run.specs.Blocks.{Searches, Removable, Removes};
-ghost use Rattle.rules.specs.Counts.{members_gone};
+ghost use Rattle.small_block.specs.ByMasks.{block_of};
+ghost use Rattle.run.specs.Blocks.{due_in, Removable};
 
 use crate::Reached;
+use graph::Graph;
 use rules::{Options, Tally};
-use small_block::Growth;
+use small_block::Decisions;
 use state::State;
 
-// The block that is due, if small block is on and there is one; its members are none where there is not.
-pub fn due_block(masks: &[u64; 64], states: &[u8; 64], n: usize, options: Options) -> Growth
-    requires { (n ≤ 64) × Network 64 (near_by masks.now) }
-    ensures { Searches result n masks.now states.now options }
+// The block that is due, if small block is on and there is one.
+pub fn due_block(g: &Graph, options: Options) -> Option<Decisions>
+    requires { Network 64 (neighbours g.now) }
+    ensures { block_of result ≡ due_in options g.now }
 {
     if options.small_block {
-        return small_block::find_block(masks, states, n);
+        return small_block::find_block(g);
     }
-    small_block::no_block()
-}
-
-// Its members.
-fn members(count: usize) -> Tally
-    requires { count ≤ 8 }
-    ensures { result ≡ members_gone count }
-{
-    Tally {
-        eliminated: 0,
-        three: 0,
-        skipped: 0,
-        contracted: 0,
-        weakly: 0,
-        in_blocks: count as u32,
-    }
+    None
 }
 
 // The block is eliminated, and a unit is used.
-pub fn take_block(
-    lin: &mut [i64; 64],
-    edges: &mut [i64; 4096],
-    masks: &mut [u64; 64],
-    states: &mut [u8; 64],
-    at: Reached,
-    found: Growth,
-) -> Reached
-    requires { Removable at.state at.steps (arrays lin.old edges.old masks.old states.old) found.order found.count }
-    ensures { Removes at.state at.steps (arrays lin.old edges.old masks.old states.old) (take found.count found.order) result (arrays lin.new edges.new masks.new states.new) }
+pub fn take_block(g: &mut Graph, at: &mut Reached, members: &[usize])
+    requires { Removable g.old at.old members.now }
+    ensures { (g.new ≡ eliminate_block members.now g.old)
+        × (at.new ≡ record { state = record { tally = plus at.old.state.tally (members_gone (length members.now)); takes = at.old.state.takes; blocks = at.old.state.blocks + 1 }; steps = at.old.steps ++ map hold (block_steps g.old members.now 0 members.now) }) }
 {
-    let order = found.order;
-    let count = found.count;
-    let s = at.state;
-    let before = at.steps;
-    let done = block_elimination::eliminate_block(
-        lin, edges, masks, states, s.frame, &order, count, before,
-    );
-    let frame = done.frame;
-    let steps = done.steps;
-    let tally = state::more(s.tally, members(count));
-    let next = State {
-        frame: frame,
-        tally: tally,
-        takes: s.takes,
-        blocks: s.blocks + 1,
+    block_elimination::eliminate_block(g, members, &mut at.steps);
+    let gone = Tally {
+        in_blocks: members.len() as u32,
+        ..Tally::default()
     };
-    Reached {
-        state: next,
-        steps: steps,
-    }
+    at.state = State {
+        blocks: at.state.blocks + 1,
+        ..at.state.counting(gone)
+    };
 }

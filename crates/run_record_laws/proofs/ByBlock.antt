@@ -8,11 +8,10 @@ use Rattle.std.proofs.lemmas.List.{length-replicate, length-map}
 use Rattle.whole.specs.Tests.{not_on, eqb_same}
 use Rattle.rules.specs.Objective.{Objective}
 use Rattle.rules.specs.Outcome.{outcome_of, outcome}
-use Rattle.rules.specs.Record.{no_step, no_record, hold, hold_all, record_of, record_in, block_of, sound, broken}
-use Rattle.rules.specs.Refuse.{first_row, block_rows, answer_rows, plan_rows, reduce_refusal, write_refusal, grow_refusal, project_refusal, grow_block_refusal, project_block_refusal}
-use Rattle.rules.specs.Call.{unless, grown, projected, block_after, reading, plan_after, answer_after, block_plan_after, block_answer_after}
+use Rattle.rules.specs.Record.{no_step, hold, hold_all, record_of, record_in, block_of, sound, broken}
+use Rattle.rules.specs.Refuse.{first_row, block_rows, answer_rows, plan_rows, read_refusal, reduce_refusal, write_refusal, grow_refusal, project_refusal, grow_block_refusal, project_block_refusal}
+use Rattle.rules.specs.Call.{unless, reduction, grown, projected, block_after, plan_after, answer_after, block_plan_after, block_answer_after}
 use Rattle.rules.specs.declared.Record.{Record}
-use Rattle.rules.specs.declared.Reading.{Reading}
 use Rattle.rules.specs.declared.Reduction.{Reduction}
 use Rattle.accepted_laws.specs.Accept.{Fit, accept}
 use Rattle.accepted_laws.specs.Rows.{no_row, no_number, block_passed}
@@ -20,7 +19,7 @@ use Rattle.sound_laws.specs.SoundStart.{states_from}
 use Rattle.run_laws.specs.StepLaws.{steps_few}
 use Rattle.record_laws.specs.Fields.{Held}
 use Rattle.record_laws.specs.RoundTrip as trip
-use Rattle.demand_laws.specs.Demands.{reduction_for, ByBlock}
+use Rattle.demand_laws.specs.Demands.{ByBlock}
 use Rattle.demand_laws.specs.RunEnds.{end_steps, end_fine, end_taken}
 use Rattle.run_record_laws.proofs.ByCalls.{run_record_sound, reply_is}
 
@@ -40,13 +39,8 @@ module _ (r : Record) (h : Held r) (s : sound r ≡ true) where
   unfolding block_after
   block_is b l = ap (λ (k : ℕ). unless k (block_of r) b) (written_fine b l)
 
-  reading_is : reading (block_of r) ≡ record { answer = 0; «record» = r }
-  unfolding reading
-  reading_is =
-      ap (λ (k : ℕ). reading_of k (unless k (record_in (block_of r)) no_record)) (trip.reads r h unbroken) ∙ ap (reading_of 0) same
-    where
-      reading_of : ℕ → Record → Reading
-      reading_of k r = record { answer = k; «record» = r }
+  read_is : (read_refusal (block_of r) ≡ 0) × (record_in (block_of r) ≡ r)
+  read_is = (trip.reads r h unbroken, same)
 
   -- the block's rows pass, and the record that is read is r
   below : (rows : Record → List (ℕ × Bool)) → first_row (block_rows (block_of r) ++ rows (record_in (block_of r))) ≡ first_row ((12, broken r) ∷ rows r)
@@ -84,17 +78,17 @@ run_record_held o fit = record {
 }
 
 -- ---- through the calls
-pub by_block : (o : Objective) (l e : List ℤ) (b : List ℕ) → reduce_refusal o (length l) (length e) ≡ 0 → length b ≡ 512 → ByBlock o l e b
+pub by_block : (o : Objective) (l e : List ℤ) (b : List ℕ) → reduce_refusal o (length l) (length e) ≡ 0 → length b ≡ 512 → ByBlock o b
 by_block o l e b accepted long =
     let fit = (accept o (length l) (length e) accepted).fit in
-    let is : (reduction_for o l e).«record» ≡ record_of o.n (outcome o).constant (outcome o).states (outcome o).steps = ap (λ (r : Reduction). r.«record») (reply_is o l e accepted) in
-    let h : Held (reduction_for o l e).«record» = subst Held (sym is) (run_record_held o fit) in
-    let s : sound (reduction_for o l e).«record» ≡ true = ap sound is ∙ run_record_sound o fit in
-    let r : Record = (reduction_for o l e).«record» in
+    let is : (reduction o).«record» ≡ record_of o.n (outcome o).constant (outcome o).states (outcome o).steps = ap (λ (r : Reduction). r.«record») (reply_is o) in
+    let h : Held (reduction o).«record» = subst Held (sym is) (run_record_held o fit) in
+    let s : sound (reduction o).«record» ≡ true = ap sound is ∙ run_record_sound o fit in
+    let r : Record = (reduction o).«record» in
     let is_Block = block_is r h s b long in
     record {
       written = written_fine r h s b long;
-      read = ap reading is_Block ∙ reading_is r h s;
+      read = subst (λ (c : List ℕ). (read_refusal c ≡ 0) × (record_in c ≡ r)) (sym is_Block) (read_is r h s);
       grown_number = λ answer out. ap (λ (c : List ℕ). grow_block_refusal c answer out) is_Block ∙ grown_number_is r h s answer out;
       grown = λ answer out. ap (λ (c : List ℕ). block_plan_after c answer out) is_Block ∙ grown_is r h s answer out;
       projected_number = λ plan out. ap (λ (c : List ℕ). project_block_refusal c plan out) is_Block ∙ projected_number_is r h s plan out;

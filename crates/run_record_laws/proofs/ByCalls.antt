@@ -15,12 +15,12 @@ use Rattle.rules.specs.Back.{grow_back, project, remaining_of}
 use Rattle.rules.specs.Eliminate as rule
 use Rattle.rules.specs.Record.{record_of, steps_of, states_of, sound}
 use Rattle.rules.specs.Refuse.{over, reduce_refusal, grow_refusal, project_refusal}
-use Rattle.rules.specs.Call.{unless, reduction, reported, refused, linear_after, edges_after, plan_after, answer_after}
+use Rattle.rules.specs.Call.{unless, reduction, reported, linear_after, edges_after, plan_after, answer_after}
 use Rattle.rules.specs.declared.Reduction.{Reduction}
 use Rattle.accepted_laws.specs.Accept.{Fit, Accepted, accept}
 use Rattle.sound_laws.specs.SoundStart.{states_from}
 use Rattle.size_laws.proofs.RunWithin.{ended_within}
-use Rattle.demand_laws.specs.Demands.{Values, FullPlan, Answer, cost_of_plan, grown_back, projection, reduction_for, Grows, Projects, ByCalls}
+use Rattle.demand_laws.specs.Demands.{Values, FullPlan, Answer, cost_of_plan, grown_back, projection, Grows, Projects, ByCalls}
 use Rattle.demand_laws.specs.RunEnds.{end_graph, end_steps, end_states, end_taken, start_state, shown_remaining}
 use Rattle.demand_laws.proofs.Theorems.{first_half, second_half}
 use Rattle.record_laws.specs.Steps.{steps_of_record}
@@ -81,16 +81,16 @@ module _ (o : Objective) (fit : Fit o) where
   answer_is plan out v h = ap (λ (k : ℕ). unless k (project (take o.n (outcome o).states) plan) out) (project_fine plan out v h)
 
 -- ---- through the calls
+pub reply_is : (o : Objective) → reduction o ≡ reported o.n (outcome o)
+unfolding reduction
+reply_is o = refl
+
 module _ (o : Objective) (l e : List ℤ) (accepted : reduce_refusal o (length l) (length e) ≡ 0) where
   whole : Accepted o (length l) (length e)
   whole = accept o (length l) (length e) accepted
 
   accepted_lengths : reduce_refusal o 64 4096 ≡ 0
   accepted_lengths = ap₂ (reduce_refusal o) (sym whole.out_linear) (sym whole.out_edges) ∙ accepted
-
-  pub reply_is : reduction_for o l e ≡ reported o.n (outcome o)
-  unfolding reduction
-  reply_is = ap (λ (k : ℕ). unless k (reported o.n (outcome o)) (refused k)) accepted
 
   linear_is : linear_after o l e ≡ (outcome o).linear
   unfolding linear_after
@@ -127,6 +127,6 @@ module _ (o : Objective) (l e : List ℤ) (accepted : reduce_refusal o (length l
 
   pub by_calls : ByCalls o l e
   by_calls = record {
-    grown = subst (λ (r : Reduction). Grows o r (linear_after o l e) (edges_after o l e)) (sym reply_is) (rw (linear_is, edges_is) reported_grows);
-    projected = subst (λ (r : Reduction). Projects o r (linear_after o l e) (edges_after o l e)) (sym reply_is) (rw (linear_is, edges_is) reported_projects);
+    grown = subst (λ (r : Reduction). Grows o r (linear_after o l e) (edges_after o l e)) (sym (reply_is o)) (rw (linear_is, edges_is) reported_grows);
+    projected = subst (λ (r : Reduction). Projects o r (linear_after o l e) (edges_after o l e)) (sym (reply_is o)) (rw (linear_is, edges_is) reported_projects);
   }

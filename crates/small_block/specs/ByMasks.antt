@@ -1,6 +1,6 @@
--- What the search holds as 64-bit masks and at the front of arrays.
+-- What the search holds as 64-bit masks, and what it finds.
 -- Assumes nothing.
-use Rattle.std.specs.Prelude.{cond, List, [], ◌∷◌, ℕ, ltb, eqb, get_or, take}
+use Rattle.std.specs.Prelude.{List, ℕ, get_or, Option, Some, None}
 use Rattle.whole.specs.Masks.{these}
 use Rattle.rules.specs.SmallBlock.{Block, none, members}
 
@@ -8,10 +8,7 @@ use Rattle.rules.specs.SmallBlock.{Block, none, members}
 abbrev pub near_by : List ℕ → ℕ → List ℕ
 near_by masks i = these (get_or masks i 0)
 
--- the removed decision; 64 is none
-abbrev pub removed_by : ℕ → List ℕ
-removed_by r = cond (ltb r 64) (r ∷ []) []
-
--- a block as the code holds it: its members at the front of an array; none where they are 0
-abbrev pub block_by : List ℕ → ℕ → Block
-block_by order count = cond (eqb count 0) none (members (take count order))
+-- a block as the code has it: its members, if there is one
+abbrev pub block_of : Option (List ℕ) → Block
+block_of None = none
+block_of (Some b) = members b

@@ -1,82 +1,49 @@
 -- The cut test by masks.
 -- Assumes nothing.
-use Rattle.std.specs.Prelude.{◌≡◌, refl, Bool, true, false, cond, ◌&&◌, List, [], ◌∷◌, ◌≢◌, ℕ, ◌^◌, ◌<◌, ◌≤◌, eqb, ltb}
-use Rattle.std.proofs.Common.{sym, ap₂, ◌∙◌, subst, lt-ltb, le-ltb}
-use Rattle.std.proofs.Math.Path.{ap}
-use Rattle.std.proofs.Math.Bool.{not, and-false, or-false}
-use Rattle.std.specs.Int.Count.{count_trailing_zeros}
-use Rattle.whole.specs.Words.{bit, mem, those, some}
+use Rattle.std.specs.Prelude.{◌≡◌, Bool, true, false, not, ◌&&◌, List, [], ◌∷◌, ℕ, ◌<◌, get_or}
+use Rattle.std.proofs.Common.{sym, ap, ap₂, ◌∙◌}
+use Rattle.std.proofs.Math.Bool.{and-false}
+use Rattle.whole.specs.Words.{bit, mem, some}
+use Rattle.whole.specs.Tests.{not_on}
+use Rattle.whole.specs.Masks.{these, without, mem_these, these_below, these_less, those_ext}
 use Rattle.rules.specs.SmallBlock.{component, besides, is_cut}
-use Rattle.whole.specs.Members.{out_of_cons, in_head}
 use Rattle.cost_laws.specs.Growth.{Network, parted, free, cut_from_first}
-use Rattle.whole.specs.Masks.{these, without, bit_single, these_less, these_end, first_in, those_ext, turn}
-use Rattle.small_block.specs.ByMasks.{near_by, removed_by}
-
--- the removed one: a number below 64, or none
-pub removed_is : (r : ℕ) → r < 64 → removed_by r ≡ r ∷ []
-removed_is r l = ap (λ (t : Bool). cond t (r ∷ []) []) (lt-ltb r 64 l)
-
-pub removed_none : (r : ℕ) → 64 ≤ r → removed_by r ≡ []
-removed_none r l = ap (λ (t : Bool). cond t (r ∷ []) []) (le-ltb r 64 l)
-
-pub not_removed : (c r : ℕ) → c ≢ r → mem c (removed_by r) ≡ false
-unfolding mem
-not_removed c r d = go (ltb r 64)
-  where
-    go : (t : Bool) → mem c (cond t (r ∷ []) []) ≡ false
-    go true = out_of_cons c r [] d refl
-    go false = refl
-
-those_all : (p : ℕ → Bool) (xs : List ℕ) → ((k : ℕ) → p k ≡ true) → those p xs ≡ xs
-unfolding those
-those_all p [] h = refl
-those_all p (x ∷ xs) h = ap₂ (λ (b : Bool) (ys : List ℕ). cond b (x ∷ ys) (those p xs)) (h x) (those_all p xs h)
-
--- the neighbours but for the removed one, by masks
-pub less_removed : (a r s : ℕ) → r < 64 → s ≡ 2 ^ r → these (without a s) ≡ those (λ u. not (mem u (removed_by r))) (these a)
-unfolding mem
-less_removed a r s l e = these_less a s ∙ those_ext (λ k. not (bit s k)) (λ u. not (mem u (removed_by r))) (these a)
-    (λ k m. ap not (ap (λ (z : ℕ). bit z k) e ∙ bit_single r k ∙ sym (or-false (eqb k r)) ∙ ap (mem k) (sym (removed_is r l))))
-
-pub all_stay : (a r : ℕ) → 64 ≤ r → these a ≡ those (λ u. not (mem u (removed_by r))) (these a)
-unfolding mem
-all_stay a r l = sym (those_all (λ u. not (mem u (removed_by r))) (these a) (λ k. ap (λ (xs : List ℕ). not (mem k xs)) (removed_none r l)))
+use Rattle.small_block.specs.ByMasks.{near_by}
+use Rattle.small_block.specs.Aside.{Same, component_same}
 
 module _ (masks : List ℕ) (removed c : ℕ) (net : Network 64 (near_by masks)) (lc : c < 64) where
-  -- the removed one is no cut
-  pub cut_same : c ≡ removed → false ≡ is_cut (near_by masks) (removed_by removed) c
-  unfolding is_cut
-  cut_same e =
-      ap (λ (b : Bool). not b && some (λ u. some (λ v. not (mem v (component (near_by masks) (c ∷ removed_by removed) u))) (besides (near_by masks) (removed_by removed) c)) (besides (near_by masks) (removed_by removed) c))
-      (sym (subst (λ (r : ℕ). mem c (removed_by r) ≡ true) e (ap (mem c) (removed_is c lc) ∙ in_head c [])))
+  abbrev near : ℕ → List ℕ
+  near = near_by masks
 
-  module _ (around : ℕ) (low : around < 2 ^ 64) (is : these around ≡ besides (near_by masks) (removed_by removed) c) where
-    pub cut_none : around ≡ 0 → false ≡ is_cut (near_by masks) (removed_by removed) c
-    cut_none e = sym (cut_from_first 64 (near_by masks) net (removed_by removed) c lc
-        ∙ ap (λ (xs : List ℕ). not (mem c (removed_by removed)) && parted (near_by masks) (c ∷ removed_by removed) xs) (sym is ∙ these_end around e)
-        ∙ and-false (not (mem c (removed_by removed))))
+  by_first : is_cut near (these removed) c ≡ (not (bit removed c) && parted near (c ∷ these removed) (besides near (these removed) c))
+  by_first =
+      cut_from_first 64 near net (these removed) c lc
+      ∙ ap (λ (t : Bool). not t && parted near (c ∷ these removed) (besides near (these removed) c)) (mem_these removed c lc)
 
-    abbrev first : ℕ
-    first = count_trailing_zeros 64 around
+  -- a removed one is no cut
+  pub cut_same : bit removed c ≡ true → false ≡ is_cut (near_by masks) (these removed) c
+  cut_same e = sym (by_first ∙ ap (λ (t : Bool). t && parted near (c ∷ these removed) (besides near (these removed) c)) (not_on e))
 
-    pub first_free : around ≢ 0 → (first < 64) × (mem first (c ∷ removed_by removed) ≡ false)
-    first_free d = free 64 (near_by masks) net (removed_by removed) c lc first (ap (mem first) (sym is) ∙ first_in around d low)
+  -- the neighbours but for the removed one, by masks
+  pub less_removed : (around : ℕ) → around ≡ without (get_or masks c 0) removed → these around ≡ besides (near_by masks) (these removed) c
+  less_removed around e = ap these e ∙ these_less (get_or masks c 0) removed
+      ∙ those_ext (λ k. not (bit removed k)) (λ u. not (mem u (these removed))) (these (get_or masks c 0)) (λ k m. ap not (sym (mem_these removed k (these_below (get_or masks c 0) k m))))
 
-    parted_first : around ≢ 0 → parted (near_by masks) (c ∷ removed_by removed) (these around)
-        ≡ some (λ v. not (mem v (component (near_by masks) (c ∷ removed_by removed) first))) (these around)
-    parted_first d =
-        ap (parted (near_by masks) (c ∷ removed_by removed)) (turn around d low).parts
-        ∙ ap (some (λ v. not (mem v (component (near_by masks) (c ∷ removed_by removed) first)))) (sym (turn around d low).parts)
+  module _ (around : ℕ) (is : these around ≡ besides (near_by masks) (these removed) c) where
+    pub cut_none : these around ≡ [] → false ≡ is_cut (near_by masks) (these removed) c
+    cut_none e = sym (by_first ∙ ap (λ (xs : List ℕ). not (bit removed c) && parted near (c ∷ these removed) xs) (sym is ∙ e) ∙ and-false (not (bit removed c)))
 
-    -- the neighbours but for the removed one are not set aside
-    pub around_free : (k : ℕ) → mem k (these around) ≡ true → mem k (c ∷ removed_by removed) ≡ false
-    around_free k m = (free 64 (near_by masks) net (removed_by removed) c lc k (ap (mem k) (sym is) ∙ m)).1
+    module _ (aside : ℕ) (same : Same (these aside) (c ∷ these removed)) where
+      -- they are not set aside
+      pub around_free : (k : ℕ) → mem k (these around) ≡ true → bit aside k ≡ false
+      around_free k m = sym (mem_these aside k (these_below around k m)) ∙ same k ∙ (free 64 near net (these removed) c lc k (ap (mem k) (sym is) ∙ m)).1
 
-    -- the test of all of them from the first
-    pub cut_first : around ≢ 0 → c ≢ removed → (r : Bool) → r ≡ some (λ v. not (mem v (component (near_by masks) (c ∷ removed_by removed) first))) (these around)
-        → r ≡ is_cut (near_by masks) (removed_by removed) c
-    cut_first d dr r e =
-        e
-        ∙ sym (cut_from_first 64 (near_by masks) net (removed_by removed) c lc
-        ∙ ap₂ (λ (b : Bool) (xs : List ℕ). not b && parted (near_by masks) (c ∷ removed_by removed) xs) (not_removed c removed dr) (sym is)
-        ∙ parted_first d)
+      -- the test of all of them from the first
+      pub cut_first : (first : ℕ) (later : List ℕ) → these around ≡ first ∷ later → bit removed c ≡ false → (r : Bool)
+          → r ≡ some (λ v. not (mem v (component (near_by masks) (these aside) first))) (these around) → r ≡ is_cut (near_by masks) (these removed) c
+      cut_first first later parts off r e =
+          let apart = λ (xs : List ℕ). some (λ v. not (mem v (component near xs first))) (first ∷ later) in
+          let reached = λ (xs : List ℕ). some (λ v. not (mem v xs)) (first ∷ later) in
+          e ∙ ap (some (λ v. not (mem v (component near (these aside) first)))) parts
+          ∙ ap reached (component_same near (these aside) (c ∷ these removed) same first)
+          ∙ sym (by_first ∙ ap₂ (λ (t : Bool) (xs : List ℕ). not t && parted near (c ∷ these removed) xs) off (sym is ∙ parts))

@@ -1,10 +1,11 @@
 -- Growing a component by masks: what holds at each turn.
 -- Assumes nothing.
-use Rattle.std.specs.Prelude.{◌≡◌, Bool, not, ◌||◌, length, get_or, take, drop}
-use Rattle.std.proofs.Math.Path.{sym, ap, ap₂, subst}
+use Rattle.std.specs.Prelude.{◌≡◌, Bool, false, not, ◌||◌, eqb, length, get_or, take, drop}
+use Rattle.std.proofs.Math.Path.{refl, sym, ap, ap₂, subst}
+use Rattle.std.proofs.Math.Bool.{or-false}
 use Rattle.std.proofs.Common.{◌∙◌, arith, take-append-drop, take-suc, drop-cons}
 use mathlib.Core.List.{List, [], ◌∷◌, ◌++◌, append_assoc}
-use Prim.Native.Nat.{ℕ, suc, ◌+◌, ◌-◌, ◌<◌, ◌≤◌}
+use Prim.Native.Nat.{ℕ, suc, ◌+◌, ◌-◌, ◌^◌, ◌<◌, ◌≤◌}
 use Rattle.std.proofs.Math.Numerals.{add-one}
 use Rattle.std.specs.Int.Bits.{bit_or}
 use Rattle.std.proofs.lemmas.List.{take-append-le, drop-append-le}
@@ -13,25 +14,32 @@ use Rattle.whole.specs.Words.{bit, mem}
 use Rattle.rules.specs.SmallBlock.{fresh, grow, component}
 use Rattle.whole.specs.Pigeon.{Apart, pigeon}
 use Rattle.whole.specs.Members.{mem_append}
-use Rattle.cost_laws.specs.Growth.{Network, Growing, grow_turn}
+use Rattle.cost_laws.specs.Growth.{Network, Growing, grow_begins, grow_turn}
 use Rattle.cost_laws.specs.Turns.{idle_turns}
-use Rattle.whole.specs.Masks.{these, without, bit_or_lem, mem_these, these_below, these_less, those_ext}
+use Rattle.whole.specs.Masks.{these, without, bit_or_lem, bit_single, mem_these, these_below, these_less, those_ext}
 use Rattle.whole.specs.Counts.{one_left}
 use Rattle.small_block.specs.ByMasks.{near_by}
 
--- a component, as the code holds it: its order at the front of an array, and a mask of it and of what is set aside
-pub record GrownAs (near : ℕ → List ℕ) (aside : List ℕ) (seed : ℕ) (order : List ℕ) (count seen : ℕ) : Type 0 where
-  pub few : count ≤ 64
-  pub long : length order ≡ 64
-  pub is : take count order ≡ component near aside seed
-  pub size : length (component near aside seed) ≡ count
-  pub marks : (k : ℕ) → k < 64 → bit seen k ≡ mem k (aside ++ component near aside seed)
+-- a component, as the code has it, with a mask of it and of what is set aside
+pub record GrownAs (near : ℕ → List ℕ) (aside : List ℕ) (seed : ℕ) (found : List ℕ) (seen : ℕ) : Type 0 where
+  pub is : found ≡ component near aside seed
+  pub marks : (k : ℕ) → k < 64 → bit seen k ≡ mem k (aside ++ found)
 
 -- l has been found, and its first `done` have been gone through
 pub record Explored (near : ℕ → List ℕ) (aside : List ℕ) (seed : ℕ) (l : List ℕ) (done seen : ℕ) : Type 0 where
   pub growing : Growing 64 near aside (take done l) (drop done l)
   pub leads : component near aside seed ≡ grow near (64 - done) aside (take done l) (drop done l)
   pub marks : (k : ℕ) → k < 64 → bit seen k ≡ mem k (aside ++ l)
+
+-- the seed has been found
+pub explored_begins : (near : ℕ → List ℕ) (net : Network 64 near) (aside : List ℕ) (seed mask one : ℕ) (l : List ℕ) → seed < 64 → mem seed aside ≡ false → ((k : ℕ) → k < 64 → bit mask k ≡ mem k aside)
+    → one ≡ 2 ^ seed → l ≡ seed ∷ [] → Explored near aside seed l 0 (bit_or mask one)
+unfolding mem
+explored_begins near net aside seed mask one l b m h e is = subst (λ (xs : List ℕ). Explored near aside seed xs 0 (bit_or mask one)) (sym is) (record {
+  growing = grow_begins 64 near net aside seed b m;
+  leads = refl;
+  marks = λ k lk. bit_or_lem mask one k ∙ ap₂ (λ (x y : Bool). x || y) (h k lk) (ap (λ (z : ℕ). bit z k) e ∙ bit_single seed k ∙ sym (or-false (eqb k seed))) ∙ sym (mem_append k aside (seed ∷ []));
+})
 
 module _ {near : ℕ → List ℕ} {aside : List ℕ} {seed : ℕ} {l : List ℕ} {done seen : ℕ} (w : Explored near aside seed l done seen) where
   pub explored_apart : Apart 64 l
@@ -94,3 +102,11 @@ module _ (masks : List ℕ) {aside : List ℕ} {seed : ℕ} {l : List ℕ} {done
 
   pub found_marks : (k : ℕ) → k < 64 → bit found k ≡ mem k (fresh (near_by masks) aside l i)
   found_marks k b = sym (mem_these found k b) ∙ ap (mem k) found_fresh
+
+-- a turn, as the code makes it: i is gone through
+pub explored_next : (masks : List ℕ) {aside : List ℕ} {seed : ℕ} {l : List ℕ} {done seen : ℕ} → Explored (near_by masks) aside seed l done seen → Network 64 (near_by masks) → done < length l
+    → (i new : ℕ) → i ≡ get_or l done 0 → new ≡ without (get_or masks i 0) seen → Explored (near_by masks) aside seed (l ++ these new) (done + 1) (bit_or seen new)
+explored_next masks {aside} {seed} {l} {done} {seen} w net h i new here is =
+    let fresh_at : these new ≡ fresh (near_by masks) aside l (get_or l done 0) = ap these is ∙ found_fresh masks w i ∙ ap (fresh (near_by masks) aside l) here in
+    subst (λ (xs : List ℕ). Explored (near_by masks) aside seed (l ++ xs) (done + 1) (bit_or seen new)) (sym fresh_at)
+    (explored_turn w net h new (λ k b. ap (λ (m : ℕ). bit m k) is ∙ found_marks masks w i k b ∙ ap (λ (j : ℕ). mem k (fresh (near_by masks) aside l j)) here))

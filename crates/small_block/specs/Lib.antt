@@ -1,7 +1,10 @@
 pub mod ByMasks
+pub mod Aside
 pub mod Explored
 pub mod Scanned
 pub mod Cutting
+pub mod Removed
 pub mod Seeking
 pub mod Tables
 pub mod Reaching
+pub mod ByLowest

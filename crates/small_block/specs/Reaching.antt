@@ -1,17 +1,18 @@
 -- Which of some decisions are reached from u, stopping as soon as all are: what holds at each turn.
 -- Assumes nothing.
-use Rattle.std.specs.Prelude.{◌≡◌, refl, Bool, true, false, not, ◌&&◌, ◌||◌, List, [], ◌∷◌, ◌++◌, ◌≢◌, ℕ, ◌+◌, ◌-◌, ◌^◌, ◌<◌, eqb, get_or}
+use Rattle.std.specs.Prelude.{◌≡◌, refl, Bool, true, false, not, ◌&&◌, ◌||◌, List, [], ◌∷◌, ◌++◌, ◌≢◌, ℕ, ◌+◌, ◌-◌, ◌^◌, ◌<◌, eqb, get_or, length}
 use Rattle.std.proofs.Common.{sym, ap, ap₂, ◌∙◌, subst, arith, eqb-true, eq-eqb}
 use Rattle.std.proofs.Math.Decide.{ℕ_discrete}
-use Rattle.std.specs.Int.Bits.{bit_and, bit_or, or_add_and, and_lt}
+use Rattle.std.specs.Int.Bits.{bit_and, bit_or, and_lt}
 use Rattle.std.proofs.lemmas.Nat.{or_disjoint, or_lt}
 use Rattle.std.specs.Int.Count.{count_trailing_zeros}
 use Rattle.whole.specs.Words.{bit, mem, some}
 use Rattle.rules.specs.SmallBlock.{component}
 use Rattle.whole.specs.Tests.{cases, clash, refuse, or_true, or-false, or_left, or_right, and-true, and_both, not_off, not_on, on_not, off_not}
-use Rattle.whole.specs.Members.{in_single, in_head, in_append, in_left, in_right, some_true, some_none, apart_below}
+use Rattle.whole.specs.Members.{in_single, in_head, in_tail, in_cons, in_append, in_left, in_right, some_true, some_none, apart_below}
 use Rattle.cost_laws.specs.Growth.{Network, Grown, component_grown}
-use Rattle.whole.specs.Masks.{these, without, bit_or_lem, bit_and_lem, bit_less, bit_single, bit_none, mem_these, these_below, first_in, turn, lowest_off}
+use Rattle.whole.specs.Masks.{these, without, bit_or_lem, bit_and_lem, bit_less, bit_single, bit_none, mem_these, these_below, first_in, turn}
+use Rattle.whole.specs.Walks.{item_below, these_few, these_or}
 use Rattle.small_block.specs.ByMasks.{near_by}
 
 pub record Reaching (near : ℕ → List ℕ) (aside : List ℕ) (u around seen todo left : ℕ) : Type 0 where
@@ -64,7 +65,8 @@ module _ (masks : List ℕ) (net : Network 64 (near_by masks)) {aside : List ℕ
           on_not (bit seen v) (refuse (not (bit seen v)) (λ t. clash (w.rest v b ∙ and_both (sym (mem_these around v b) ∙ m) t) (ap (λ (z : ℕ). bit z v) e ∙ bit_none v)))
 
   -- nothing is left to go through, and some of them is not reached
-  pub reach_stop : todo ≡ 0 → left ≢ 0 → left < 2 ^ 64 → true ≡ some (λ v. not (mem v (component (near_by masks) aside u))) (these around)
+  pub reach_stop : these todo ≡ [] → left ≢ 0 → left < 2 ^ 64 → true ≡ some (λ v. not (mem v (component (near_by masks) aside u))) (these around)
+  unfolding mem
   reach_stop e d l =
       let v = count_trailing_zeros 64 left in
       let m : mem v (these left) ≡ true = first_in left d l in
@@ -78,38 +80,33 @@ module _ (masks : List ℕ) (net : Network 64 (near_by masks)) {aside : List ℕ
           (grown_u.least (λ k. bit seen k && not (mem k aside))
           (λ i j h li n mj.
           let p = and-true (bit seen i) (not (mem i aside)) h in
-          and_both (w.through i j li p.0 (off_not (mem i aside) p.1) (ap (λ (z : ℕ). bit z i) e ∙ bit_none i) n) (not_off mj))
+          and_both (w.through i j li p.0 (off_not (mem i aside) p.1) (sym (mem_these todo i li) ∙ ap (mem i) e) n) (not_off mj))
           (λ k q. subst (λ (m : ℕ). (bit seen m && not (mem m aside)) ≡ true) (sym (in_single k u q)) (and_both w.start (not_off mu))) k t)).0
 
-  module _ (d : todo ≢ 0) (lt : todo < 2 ^ 64) (ls : seen < 2 ^ 64) where
-    abbrev j : ℕ
-    j = count_trailing_zeros 64 todo
-
+  -- j is the next, and `later` those after it
+  module _ (j later : ℕ) (parts : these todo ≡ j ∷ these later) where
     abbrev mask : ℕ
-    mask = get_or masks (count_trailing_zeros 64 todo) 0
+    mask = get_or masks j 0
 
-    abbrev later : ℕ
-    later = bit_and todo (todo - 1)
+    pub next_low : j < 64
+    next_low = item_below todo j (these later) parts
 
-    pub next_low : count_trailing_zeros 64 todo < 64
-    next_low = (turn todo d lt).below
-
-    now_queued : (bit seen (count_trailing_zeros 64 todo) ≡ true) × (mem (count_trailing_zeros 64 todo) aside ≡ false)
-    now_queued = w.queued (count_trailing_zeros 64 todo) next_low (sym (mem_these todo (count_trailing_zeros 64 todo) next_low) ∙ first_in todo d lt)
+    now_queued : (bit seen j ≡ true) × (mem j aside ≡ false)
+    now_queued = w.queued j next_low (sym (mem_these todo j next_low) ∙ ap (mem j) parts ∙ in_head j (these later))
 
     -- what is later was to do; what was to do is now or later
-    later_todo : (k : ℕ) → k < 64 → bit (bit_and todo (todo - 1)) k ≡ true → bit todo k ≡ true
-    later_todo k b t = (and-true (bit todo k) (bit (todo - 1) k) (sym (bit_and_lem todo (todo - 1) k) ∙ t)).0
+    later_todo : (k : ℕ) → k < 64 → bit later k ≡ true → bit todo k ≡ true
+    later_todo k b t = sym (mem_these todo k b) ∙ ap (mem k) parts ∙ in_tail k j (these later) (mem_these later k b ∙ t)
 
-    todo_later : (k : ℕ) → k < 64 → bit todo k ≡ true → bit (bit_and todo (todo - 1)) k ≡ false → k ≡ count_trailing_zeros 64 todo
-    todo_later = lowest_off todo d lt
+    todo_later : (k : ℕ) → k < 64 → bit todo k ≡ true → bit later k ≡ false → k ≡ j
+    todo_later k b t z = in_cons k j (these later) (sym (ap (mem k) parts) ∙ mem_these todo k b ∙ t) (λ q. q) (λ q. clash (sym (mem_these later k b) ∙ q) z)
 
     -- new is what the mask has and is not seen
-    module _ (new : ℕ) (is : new ≡ without (get_or masks (count_trailing_zeros 64 todo) 0) seen) where
-      bit_new : (k : ℕ) → bit new k ≡ (bit (get_or masks (count_trailing_zeros 64 todo) 0) k && not (bit seen k))
+    module _ (new : ℕ) (is : new ≡ without (get_or masks j 0) seen) where
+      bit_new : (k : ℕ) → bit new k ≡ (bit (get_or masks j 0) k && not (bit seen k))
       bit_new k = ap (λ (z : ℕ). bit z k) is ∙ bit_less mask seen k
 
-      new_is : (k : ℕ) → k < 64 → bit new k ≡ true → (mem k (near_by masks (count_trailing_zeros 64 todo)) ≡ true) × (bit seen k ≡ false)
+      new_is : (k : ℕ) → k < 64 → bit new k ≡ true → (mem k (near_by masks j) ≡ true) × (bit seen k ≡ false)
       new_is k b t =
           let p = and-true (bit mask k) (not (bit seen k)) (sym (bit_new k) ∙ t) in
           (mem_these mask k b ∙ p.0, off_not (bit seen k) p.1)
@@ -117,12 +114,12 @@ module _ (masks : List ℕ) (net : Network 64 (near_by masks)) {aside : List ℕ
       new_free : (k : ℕ) → k < 64 → bit new k ≡ true → mem k aside ≡ false
       new_free k b t = refuse (mem k aside) (λ q. clash (w.old k b q) (new_is k b t).1)
 
-      pub reach_turn : (left' : ℕ) → left' ≡ without left new → Reaching (near_by masks) aside u around (bit_or seen new) (bit_or (bit_and todo (todo - 1)) new) left'
+      pub reach_turn : (left' : ℕ) → left' ≡ without left new → Reaching (near_by masks) aside u around (bit_or seen new) (bit_or (later) new) left'
       reach_turn left' el = record {
         inside = λ k b t. or_true (bit seen k) (bit new k) (sym (bit_or_lem seen new k) ∙ t)
             (λ q. w.inside k b q)
             (λ q. in_right k aside (component (near_by masks) aside u)
-            (grown_u.closed (count_trailing_zeros 64 todo) k (reached (count_trailing_zeros 64 todo) next_low now_queued.0 now_queued.1) next_low (new_is k b q).0 (new_free k b q)));
+            (grown_u.closed j k (reached j next_low now_queued.0 now_queued.1) next_low (new_is k b q).0 (new_free k b q)));
         old = λ k b m. bit_or_lem seen new k ∙ or_left (bit new k) (w.old k b m);
         start = bit_or_lem seen new u ∙ or_left (bit new u) w.start;
         queued = λ k b t. or_true (bit later k) (bit new k) (sym (bit_or_lem later new k) ∙ t)
@@ -133,7 +130,7 @@ module _ (masks : List ℕ) (net : Network 64 (near_by masks)) {aside : List ℕ
             let was : bit seen i ≡ true = or_true (bit seen i) (bit new i) (sym (bit_or_lem seen new i) ∙ t) (λ q. q) (λ q. clash q off.1) in
             bit_or_lem seen new k ∙ cases (bit todo i)
             (λ q.
-            let here : i ≡ count_trailing_zeros 64 todo = todo_later i b q off.0 in
+            let here : i ≡ j = todo_later i b q off.0 in
             let lk : k < 64 = apart_below k (net.apart i) n in
             cases (bit seen k) (λ y. or_left (bit new k) y)
             (λ y. or_right (bit seen k) (bit_new k ∙ and_both (sym (mem_these mask k lk) ∙ subst (λ (h : ℕ). mem k (near_by masks h) ≡ true) here n) (not_off y))))
@@ -147,7 +144,7 @@ module _ (masks : List ℕ) (net : Network 64 (near_by masks)) {aside : List ℕ
           tidy false y z = refl
 
       -- seen gains what is new, and it was not there
-      module _ (new-low : new < 2 ^ 64) where
+      module _ (ls : seen < 2 ^ 64) (new-low : new < 2 ^ 64) where
         apart_new : bit_and seen new ≡ 0
         apart_new = go (ℕ_discrete (bit_and seen new) 0)
           where
@@ -163,9 +160,6 @@ module _ (masks : List ℕ) (net : Network 64 (near_by masks)) {aside : List ℕ
         pub seen_low : bit_or seen new < 2 ^ 64
         seen_low = or_lt 64 seen new ls new-low
 
-        pub todo_low : bit_or (bit_and todo (todo - 1)) new < 2 ^ 64
-        todo_low = or_lt 64 later new (turn todo d lt).smaller new-low
-
-        -- what is not seen, and what is to do, as one number
-        pub reach_less : 2 ^ 64 - bit_or seen new + bit_or (bit_and todo (todo - 1)) new < 2 ^ 64 - seen + todo
-        reach_less = omega (arith, or_disjoint seen new apart_new, or_add_and later new, (turn todo d lt).less, seen_low)
+        -- what is not seen as a number, and how many are to do
+        pub reach_less : 2 ^ 64 - bit_or seen new + length (these (bit_or later new)) < 2 ^ 64 - seen + length (these todo)
+        reach_less = omega (arith, or_disjoint seen new apart_new, these_or later new, these_few new new-low, ap length parts, seen_low)

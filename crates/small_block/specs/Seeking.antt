@@ -1,25 +1,18 @@
 -- The loops of the search by masks: what holds at each turn.
 -- Assumes nothing.
-use Rattle.std.specs.Prelude.{◌≡◌, Bool, ◌&&◌, ◌||◌, ◌≢◌, ℕ, ◌-◌, ◌^◌, ◌<◌, ◌≤◌, leb, take}
+use Rattle.std.specs.Prelude.{◌≡◌, Bool, ◌||◌, ℕ, ◌<◌}
 use Rattle.std.proofs.Math.Path.{refl, sym, ap}
-use Rattle.std.proofs.Common.{ap₂, ◌∙◌, arith, ne_eqb, eq-eqb, leb-true}
+use Rattle.std.proofs.Common.{ap₂, ◌∙◌}
 use Rattle.std.proofs.Math.Bool.{true, false, cond}
 use mathlib.Core.List.{List, [], ◌∷◌, ◌++◌}
-use Rattle.std.specs.Int.Bits.{bit_and, bit_or}
-use Rattle.std.specs.Int.Count.{count_trailing_zeros}
+use Rattle.std.specs.Int.Bits.{bit_or}
 use Rattle.whole.specs.Words.{bit, mem, those}
 use Rattle.rules.specs.SmallBlock.{Block, component, is_cut, none, members, small, or_else, among, over_cuts, over_removed, search}
-use Rattle.whole.specs.Tests.{clash, refuse, and-true, same_test, or_true, or_left, or_right}
+use Rattle.whole.specs.Tests.{clash, refuse, same_test, or_true, or_left, or_right}
 use Rattle.whole.specs.Members.{in_append, in_left, in_right}
-use Rattle.whole.specs.Masks.{these, bit_or_lem, these_end, turn}
-use Rattle.small_block.specs.ByMasks.{block_by}
+use Rattle.whole.specs.Masks.{these, bit_or_lem}
+use Rattle.whole.specs.Walks.{item_below}
 use Rattle.small_block.specs.Explored.{GrownAs}
-
-pub no_block : (order : List ℕ) (count : ℕ) → count ≡ 0 → block_by order count ≡ none
-no_block order count e = ap (λ (t : Bool). cond t none (members (take count order))) (eq-eqb count 0 e)
-
-pub a_block : (order : List ℕ) (count : ℕ) → count ≢ 0 → block_by order count ≡ members (take count order)
-a_block order count d = ap (λ (t : Bool). cond t none (members (take count order))) (ne_eqb count 0 d)
 
 -- ---- among the components
 -- the decisions of `rest` are still to be looked at; `past` has been seen
@@ -30,22 +23,22 @@ pub record Seeking (near : ℕ → List ℕ) (aside live : List ℕ) (rest seen 
   pub holds : (k : ℕ) → mem k aside ≡ true → mem k past ≡ true
 
 module _ {near : ℕ → List ℕ} {aside live : List ℕ} {rest seen : ℕ} (w : Seeking near aside live rest seen) where
-  pub seek_none : rest ≡ 0 → none ≡ among near aside aside live
+  pub seek_none : these rest ≡ [] → none ≡ among near aside aside live
   unfolding among
-  seek_none e = sym (w.leads ∙ ap (among near aside w.past) (these_end rest e))
+  seek_none e = sym (w.leads ∙ ap (among near aside w.past) e)
 
-  module _ (d : rest ≢ 0) (h : rest < 2 ^ 64) where
+  -- s is the next, and `later` those after it
+  module _ (s later : ℕ) (parts : these rest ≡ s ∷ these later) where
     seek_step : among near aside aside live
-        ≡ cond (mem (count_trailing_zeros 64 rest) w.past) (among near aside w.past (these (bit_and rest (rest - 1))))
-        (cond (small (component near aside (count_trailing_zeros 64 rest))) (members (component near aside (count_trailing_zeros 64 rest)))
-        (among near aside (w.past ++ component near aside (count_trailing_zeros 64 rest)) (these (bit_and rest (rest - 1)))))
+        ≡ cond (mem s w.past) (among near aside w.past (these later))
+        (cond (small (component near aside s)) (members (component near aside s)) (among near aside (w.past ++ component near aside s) (these later)))
     unfolding among
-    seek_step = w.leads ∙ ap (among near aside w.past) (turn rest d h).parts
+    seek_step = w.leads ∙ ap (among near aside w.past) parts
 
-    seen_past : (t : Bool) → bit seen (count_trailing_zeros 64 rest) ≡ t → mem (count_trailing_zeros 64 rest) w.past ≡ t
-    seen_past t e = sym (w.marks (count_trailing_zeros 64 rest) (turn rest d h).below) ∙ e
+    seen_past : (t : Bool) → bit seen s ≡ t → mem s w.past ≡ t
+    seen_past t e = sym (w.marks s (item_below rest s (these later) parts)) ∙ e
 
-    pub seek_skip : bit seen (count_trailing_zeros 64 rest) ≡ true → Seeking near aside live (bit_and rest (rest - 1)) seen
+    pub seek_skip : bit seen s ≡ true → Seeking near aside live later seen
     seek_skip e = record {
       past = w.past;
       leads = seek_step ∙ rw (seen_past true e);
@@ -53,36 +46,32 @@ module _ {near : ℕ → List ℕ} {aside live : List ℕ} {rest seen : ℕ} (w 
       holds = w.holds;
     }
 
-    module _ (e : bit seen (count_trailing_zeros 64 rest) ≡ false) where
-      pub seek_free : mem (count_trailing_zeros 64 rest) aside ≡ false
-      seek_free = refuse (mem (count_trailing_zeros 64 rest) aside) (λ t. clash (w.holds (count_trailing_zeros 64 rest) t) (seen_past false e))
+    module _ (e : bit seen s ≡ false) where
+      pub seek_free : mem s aside ≡ false
+      seek_free = refuse (mem s aside) (λ t. clash (w.holds s t) (seen_past false e))
 
-      module _ (order : List ℕ) (count mask : ℕ) (g : GrownAs near aside (count_trailing_zeros 64 rest) order count mask) where
-        pub seek_found : (leb 2 count && leb count 8) ≡ true → block_by order count ≡ among near aside aside live
-        seek_found t =
-            let two : 2 ≤ count = leb-true 2 count (and-true (leb 2 count) (leb count 8) t).0 in
-            a_block order count (λ z. omega arith)
-            ∙ ap members g.is
-            ∙ sym (seek_step ∙ rw (seen_past false e, g.size, t))
+      module _ (found : List ℕ) (mask : ℕ) (g : GrownAs near aside s found mask) where
+        pub seek_found : small found ≡ true → members found ≡ among near aside aside live
+        seek_found t = ap members g.is ∙ sym (seek_step ∙ rw (seen_past false e, ← g.is, t))
 
-        pub seek_on : (leb 2 count && leb count 8) ≡ false → Seeking near aside live (bit_and rest (rest - 1)) (bit_or seen mask)
+        pub seek_on : small found ≡ false → Seeking near aside live later (bit_or seen mask)
         seek_on t = record {
-          past = w.past ++ component near aside (count_trailing_zeros 64 rest);
-          leads = seek_step ∙ rw (seen_past false e, g.size, t);
+          past = w.past ++ found;
+          leads = seek_step ∙ rw (seen_past false e, ← g.is, t);
           marks = λ k b. bit_or_lem seen mask k ∙ ap₂ (λ (x y : Bool). x || y) (w.marks k b) (g.marks k b) ∙ merged k;
-          holds = λ k m. in_left k w.past (component near aside (count_trailing_zeros 64 rest)) (w.holds k m);
+          holds = λ k m. in_left k w.past found (w.holds k m);
         }
           where
-            merged : (k : ℕ) → (mem k w.past || mem k (aside ++ component near aside (count_trailing_zeros 64 rest))) ≡ mem k (w.past ++ component near aside (count_trailing_zeros 64 rest))
-            merged k = same_test (mem k w.past || mem k (aside ++ component near aside (count_trailing_zeros 64 rest))) (mem k (w.past ++ component near aside (count_trailing_zeros 64 rest)))
-                (λ t. or_true (mem k w.past) (mem k (aside ++ component near aside (count_trailing_zeros 64 rest))) t
-                (λ z. in_left k w.past (component near aside (count_trailing_zeros 64 rest)) z)
-                (λ z. in_append k aside (component near aside (count_trailing_zeros 64 rest)) z
-                (λ y. in_left k w.past (component near aside (count_trailing_zeros 64 rest)) (w.holds k y))
-                (λ y. in_right k w.past (component near aside (count_trailing_zeros 64 rest)) y)))
-                (λ t. in_append k w.past (component near aside (count_trailing_zeros 64 rest)) t
-                (λ z. or_left (mem k (aside ++ component near aside (count_trailing_zeros 64 rest))) z)
-                (λ z. or_right (mem k w.past) (in_right k aside (component near aside (count_trailing_zeros 64 rest)) z)))
+            merged : (k : ℕ) → (mem k w.past || mem k (aside ++ found)) ≡ mem k (w.past ++ found)
+            merged k = same_test (mem k w.past || mem k (aside ++ found)) (mem k (w.past ++ found))
+                (λ t. or_true (mem k w.past) (mem k (aside ++ found)) t
+                (λ z. in_left k w.past found z)
+                (λ z. in_append k aside found z
+                (λ y. in_left k w.past found (w.holds k y))
+                (λ y. in_right k w.past found y)))
+                (λ t. in_append k w.past found t
+                (λ z. or_left (mem k (aside ++ found)) z)
+                (λ z. or_right (mem k w.past) (in_right k aside found z)))
 
 -- ---- the first of some decisions for which there is a block
 unfoldable pub first_of : (ℕ → Block) → List ℕ → Block
@@ -108,28 +97,24 @@ module _ (near : ℕ → List ℕ) (live : List ℕ) where
   over_removed_lem [] = refl
   over_removed_lem (r ∷ rs) = ap (or_else (over_cuts near live (r ∷ []) live)) (over_removed_lem rs)
 
-module _ (f : ℕ → Block) (rest : ℕ) where
-  pub first_none : rest ≡ 0 → none ≡ first_of f (these rest)
+-- x is the next, and `later` those after it: there is a block for it, or the search goes on
+module _ (f : ℕ → Block) (xs : List ℕ) where
+  pub first_none : xs ≡ [] → none ≡ first_of f xs
   unfolding first_of
-  first_none e = sym (ap (first_of f) (these_end rest e))
+  first_none e = sym (ap (first_of f) e)
 
-  module _ (d : rest ≢ 0) (h : rest < 2 ^ 64) (order : List ℕ) (count : ℕ) (is : block_by order count ≡ f (count_trailing_zeros 64 rest)) where
-    first_step : first_of f (these rest) ≡ or_else (f (count_trailing_zeros 64 rest)) (first_of f (these (bit_and rest (rest - 1))))
+  module _ (x : ℕ) (later : List ℕ) (parts : xs ≡ x ∷ later) where
+    first_step : first_of f xs ≡ or_else (f x) (first_of f later)
     unfolding first_of
-    first_step = ap (first_of f) (turn rest d h).parts
+    first_step = ap (first_of f) parts
 
-    pub first_found : count ≢ 0 → block_by order count ≡ first_of f (these rest)
-    first_found z = a_block order count z ∙ sym (first_step ∙ rw (← is, a_block order count z))
+    pub first_found : (m : List ℕ) → members m ≡ f x → members m ≡ first_of f xs
+    first_found m e = sym (first_step ∙ ap (λ (b : Block). or_else b (first_of f later)) (sym e))
 
-    pub first_on : count ≡ 0 → first_of f (these rest) ≡ first_of f (these (bit_and rest (rest - 1)))
-    first_on z = first_step ∙ rw (← is, no_block order count z)
+    pub first_on : none ≡ f x → first_of f xs ≡ first_of f later
+    first_on e = first_step ∙ ap (λ (b : Block). or_else b (first_of f later)) (sym e)
 
 -- ---- none removed first
-module _ (near : ℕ → List ℕ) (live order : List ℕ) (count : ℕ) (is : block_by order count ≡ over_cuts near live [] live) where
-  pub search_found : count ≢ 0 → block_by order count ≡ search near live
-  unfolding search
-  search_found z = a_block order count z ∙ sym (rw (← is, a_block order count z))
-
-  pub search_on : count ≡ 0 → search near live ≡ first_of (λ r. over_cuts near live (r ∷ []) live) live
-  unfolding search
-  search_on z = rw (← is, no_block order count z) (over_removed_lem near live live)
+pub search_lem : (near : ℕ → List ℕ) (live : List ℕ) → search near live ≡ or_else (over_cuts near live [] live) (first_of (λ r. over_cuts near live (r ∷ []) live) live)
+unfolding search
+search_lem near live = ap (or_else (over_cuts near live [] live)) (over_removed_lem near live live)

@@ -1,18 +1,19 @@
 -- The masks of a graph: its neighbours, and the boundary of a block.
 -- Assumes nothing.
-use Rattle.std.specs.Prelude.{◌≡◌, Bool, false, ◌&&◌, ◌||◌, List, [], ◌∷◌, ◌++◌, eqb, length, get_or, take, ℤ, pos}
+use Rattle.std.specs.Prelude.{◌≡◌, refl, Bool, false, ◌&&◌, ◌||◌, List, [], ◌∷◌, ◌++◌, ◌-◌, eqb, ltb, get_or, ℤ, pos}
 use Rattle.std.proofs.Math.Path.{sym, ap, ap₂, fun_ext}
-use Rattle.std.proofs.Common.{◌∙◌, subst, arith}
+use Rattle.std.proofs.Common.{◌∙◌, subst, arith, add-sub_of_le, lt-ltb, le-ltb}
 use Rattle.std.proofs.Math.Bool.{not, and-false, and_comm, or-false, or_assoc}
 use Prim.Native.Nat.{ℕ, ◌^◌, ◌<◌, ◌≤◌}
 use Rattle.std.proofs.Math.Decide.{dec_lt}
 use Rattle.std.specs.Int.Bits.{bit_or}
 use Rattle.std.proofs.Math.ListN.{get_or-eq_default}
-use Rattle.whole.specs.Words.{bit, mem, some}
-use Rattle.whole.specs.Members.{mem_append, some_none}
-use Rattle.whole.specs.Masks.{these, without, bit_less, bit_or_lem, bit_single, bit_none}
-use Rattle.rules.specs.Graph.{Graph, graph, edge, neighbours}
-use Rattle.rules.specs.SmallBlock.{boundary}
+use Rattle.whole.specs.Words.{bit, mem, some, from, upto, those}
+use Rattle.whole.specs.Members.{mem_append, some_none, upto_in}
+use Rattle.whole.specs.Masks.{these, without, bit_less, bit_or_lem, bit_single, bit_none, those_ext}
+use Rattle.whole.specs.Those.{those_upto}
+use Rattle.rules.specs.Graph.{Graph, graph, edge, active, actives, neighbours}
+use Rattle.rules.specs.SmallBlock.{boundary, search, find_block}
 use Rattle.cost_laws.specs.Growth.{Network}
 use Rattle.graph.specs.NearLaws.{there}
 use Rattle.graph.specs.Shows.{Shows}
@@ -47,13 +48,35 @@ module _ {n : ℕ} {e : List ℤ} {masks : List ℕ} (w : Shows n e masks) where
     pub network_shown : Network 64 (neighbours (graph n c l e ss)) → Network 64 (near_by masks)
     network_shown net = subst (λ (near : ℕ → List ℕ). Network 64 near) (sym near_shown) net
 
--- ---- the boundary
--- a block's outside neighbours, as the code holds them: at the front of an array, with their number
-pub record Boundary (g : Graph) (b out : List ℕ) (width : ℕ) : Type 0 where
-  pub long : length out ≡ 64
-  pub size : length (boundary g b) ≡ width
-  pub is : take width out ≡ boundary g b
+-- ---- the graph's own
+everyone : these 18446744073709551615 ≡ upto 64
+unfolding these those from
+everyone = refl
 
+module _ (g : Graph) (few : g.n ≤ 64) where
+  -- the active decisions, as those of everyone
+  pub active_shown : (m : ℕ) → these m ≡ those (λ k. ltb k g.n && active g k) (these 18446744073709551615) → these m ≡ actives g
+  unfolding actives
+  active_shown m e =
+      e ∙ ap (those inside) everyone
+      ∙ ap (λ (c : ℕ). those inside (upto c)) (sym (add-sub_of_le few))
+      ∙ those_upto inside g.n (64 - g.n) (λ k a b. ap (λ (t : Bool). t && active g k) (le-ltb k g.n a))
+      ∙ those_ext inside (λ k. active g k) (upto g.n) (λ k m. ap (λ (t : Bool). t && active g k) (lt-ltb k g.n (upto_in k g.n m)))
+    where
+      inside : ℕ → Bool
+      inside k = ltb k g.n && active g k
+
+  module _ {masks : List ℕ} (w : Shows g.n g.edges masks) where
+    -- what the search asks of the masks
+    pub network_of : Network 64 (neighbours g) → Network 64 (near_by masks)
+    network_of net = network_shown w few g.constant g.linear g.states net
+
+    -- and what it finds
+    pub search_of : (m : ℕ) → these m ≡ actives g → search (near_by masks) (these m) ≡ find_block g
+    unfolding find_block
+    search_of m e = ap₂ (λ (near : ℕ → List ℕ) (live : List ℕ). search near live) (near_shown w few g.constant g.linear g.states) e
+
+-- ---- the boundary
 -- what the members passed so far join, and the members themselves
 pub record Around (masks passed : List ℕ) (joined own : ℕ) : Type 0 where
   pub joins : (k : ℕ) → k < 64 → bit joined k ≡ some (λ i. bit (get_or masks i 0) k) passed

@@ -1,15 +1,15 @@
 -- Who joins, as one list: those of the neighbours that are active, do not wait and are eligible; and a pass's queue the same from everyone.
 -- Assumes nothing.
-use Rattle.std.specs.Prelude.{◌≡◌, Bool, ◌&&◌, ◌||◌, ℕ, ◌-◌, ◌<◌, ◌≤◌, leb, get_or}
+use Rattle.std.specs.Prelude.{◌≡◌, Bool, ◌&&◌, ◌||◌, ℕ, ◌-◌, ◌≤◌, ltb, leb, get_or}
 use Rattle.std.proofs.Math.Path.{refl, ap, sym}
-use Rattle.std.proofs.Common.{ap₂, ◌∙◌, arith, add-sub_of_le, eq-eqb, ne_eqb}
+use Rattle.std.proofs.Common.{ap₂, ◌∙◌, add-sub_of_le, lt-ltb, le-ltb, eq-eqb, ne_eqb}
 use Rattle.std.proofs.Math.Bool.{true, false, cond, not}
 use mathlib.Core.List.{List, [], ◌∷◌, ◌++◌, append-nil, append_assoc}
-use Rattle.whole.specs.Masks.{these, these_apart, these_less, those_ext, those_those, without, bit_less, mem_these, these_below}
+use Rattle.whole.specs.Masks.{these, these_apart, those_ext, those_those}
 use Rattle.whole.specs.Those.{those_upto}
-use Rattle.whole.specs.Words.{bit, from, upto, mem, those}
-use Rattle.whole.specs.Tests.{refuse, clash, cases}
-use Rattle.whole.specs.Members.{in_left, in_those, out_both, apart_new, apart_tail, differ, out_of_cons}
+use Rattle.whole.specs.Words.{from, upto, mem, those}
+use Rattle.whole.specs.Tests.{cases, off_not}
+use Rattle.whole.specs.Members.{in_left, in_those, out_both, apart_new, apart_tail, differ, out_of_cons, upto_in}
 use Rattle.whole.specs.Pigeon.{Apart}
 use Rattle.rules.specs.Options.{low_degree, degree_three, dominant_edge}
 use Rattle.rules.specs.declared.Options.{Options}
@@ -60,11 +60,11 @@ module _ (opt : Options) (g : Graph) where
       by false skip more = skip
 
   -- the neighbours join: those of a mask, less those who wait
-  pub rejoined : (q : List ℕ) (near w r : ℕ) → ((k : ℕ) → k < 64 → bit w k ≡ mem k q) → these r ≡ those (may_join opt g) (these (without near w)) → q ++ these r ≡ join opt g (these near) q
-  rejoined q near w r h e =
+  pub rejoined : (q : List ℕ) (near others r : ℕ) → these others ≡ those (λ k. not (mem k q)) (these near) → these r ≡ those (may_join opt g) (these others) → q ++ these r ≡ join opt g (these near) q
+  rejoined q near others r f e =
       ap (λ (xs : List ℕ). q ++ xs)
-      (e ∙ ap (those (may_join opt g)) (these_less near w) ∙ those_those (may_join opt g) (λ k. not (bit w k)) (these near)
-      ∙ those_ext (λ k. not (bit w k) && may_join opt g k) (joins q) (these near) (λ k m. ap (λ (t : Bool). not t && may_join opt g k) (h k (these_below near k m)) ∙ turn (active g k) (mem k q) (eligible opt g k)))
+      (e ∙ ap (those (may_join opt g)) f ∙ those_those (may_join opt g) (λ k. not (mem k q)) (these near)
+      ∙ those_ext (λ k. not (mem k q) && may_join opt g k) (joins q) (these near) (λ k m. turn (active g k) (mem k q) (eligible opt g k)))
       ∙ sym (join_those (these near) q (these_apart near))
     where
       turn : (a b c : Bool) → (not b && (a && c)) ≡ (a && not b && c)
@@ -74,25 +74,24 @@ module _ (opt : Options) (g : Graph) where
       turn false false c = refl
 
   -- nobody waits of another mask
-  pub new_ones : (q : List ℕ) (near w r : ℕ) → ((k : ℕ) → k < 64 → bit w k ≡ mem k q) → these r ≡ those (may_join opt g) (these (without near w)) → (k : ℕ) → mem k (these r) ≡ true → mem k q ≡ false
-  new_ones q near w r h e k m =
-      let in_less : mem k (these (without near w)) ≡ true = (in_those (may_join opt g) k (these (without near w)) (ap (mem k) (sym e) ∙ m)).0 in
-      let b : k < 64 = these_below (without near w) k in_less in
-      sym (h k b) ∙ refuse (bit w k) (λ t. clash (sym (mem_these (without near w) k b) ∙ in_less) (bit_less near w k ∙ ap (λ (s : Bool). bit near k && not s) t ∙ off (bit near k)))
-    where
-      off : (a : Bool) → (a && false) ≡ false
-      off true = refl
-      off false = refl
+  pub new_ones : (q : List ℕ) (near others r : ℕ) → these others ≡ those (λ k. not (mem k q)) (these near) → these r ≡ those (may_join opt g) (these others) → (k : ℕ) → mem k (these r) ≡ true → mem k q ≡ false
+  new_ones q near others r f e k m =
+      let in_less : mem k (these others) ≡ true = (in_those (may_join opt g) k (these others) (ap (mem k) (sym e) ∙ m)).0 in
+      off_not (mem k q) ((in_those (λ j. not (mem j q)) k (these near) (ap (mem k) (sym f) ∙ in_less)).1)
 
   everyone : these 18446744073709551615 ≡ upto 64
   unfolding these those from
   everyone = refl
 
-  -- a pass's queue, from everyone: who is active is a decision
-  pub everyone_waits : (r : ℕ) → g.n ≤ 64 → ((k : ℕ) → get_or g.states k 0 ≡ 2 → k < g.n) → these r ≡ those (may_join opt g) (these 18446744073709551615) → these r ≡ waiting opt g
+  -- a pass's queue, from everyone
+  pub everyone_waits : (r : ℕ) → g.n ≤ 64 → these r ≡ those (λ k. ltb k g.n && may_join opt g k) (these 18446744073709551615) → these r ≡ waiting opt g
   unfolding waiting actives
-  everyone_waits r few inside e =
-      e ∙ ap (those (may_join opt g)) everyone
-      ∙ ap (λ (c : ℕ). those (may_join opt g) (upto c)) (sym (add-sub_of_le few))
-      ∙ those_upto (may_join opt g) g.n (64 - g.n) (λ k a b. ap (λ (t : Bool). t && eligible opt g k) (ne_eqb (get_or g.states k 0) 2 (λ z. let l : k < g.n = inside k z in omega arith)))
+  everyone_waits r few e =
+      e ∙ ap (those inside) everyone
+      ∙ ap (λ (c : ℕ). those inside (upto c)) (sym (add-sub_of_le few))
+      ∙ those_upto inside g.n (64 - g.n) (λ k a b. ap (λ (t : Bool). t && may_join opt g k) (le-ltb k g.n a))
+      ∙ those_ext inside (may_join opt g) (upto g.n) (λ k m. ap (λ (t : Bool). t && may_join opt g k) (lt-ltb k g.n (upto_in k g.n m)))
       ∙ sym (those_those (λ i. eligible opt g i) (λ i. active g i) (upto g.n))
+    where
+      inside : ℕ → Bool
+      inside k = ltb k g.n && may_join opt g k

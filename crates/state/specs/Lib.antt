@@ -1,6 +1,8 @@
 pub mod Counting
 pub mod Steps
 pub mod StepsLaws
+pub mod HeldLaws
 pub mod Joins
 pub mod JoinsLaws
+pub mod WaitersLaws
 pub mod Holds

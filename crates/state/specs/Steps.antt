@@ -1,10 +1,10 @@
--- The steps that the code holds are those of the rules, each as a record holds it.
+-- The 64 places of a run's steps: those made, then places that are not used.
 -- Assumes nothing.
-use Rattle.std.specs.Prelude.{◌≡◌, List, length}
-use Rattle.rules.specs.Eliminate as rule
-use Rattle.rules.specs.Record.{hold_all}
-use Rattle.state.specs.declared.steps.Steps.{Steps}
+use Rattle.std.specs.Prelude.{◌≡◌, ◌++◌, ◌-◌, ◌≤◌, length, take, replicate}
+use Rattle.rules.specs.Record.{no_step}
+use Rattle.state.specs.declared.steps.Steps.TheInside.{Inside}
 
-pub record StepsKept (s : Steps) (ss : List rule.Step) : Type 0 where
-  pub list : s.list ≡ hold_all ss
-  pub count : s.count ≡ length ss
+pub record StepsKept (s : Inside) : Type 0 where
+  pub long : length s.list ≡ 64
+  pub count : s.count ≤ 64
+  pub list : s.list ≡ take s.count s.list ++ replicate (64 - s.count) no_step

@@ -1,19 +1,17 @@
-// A state of the run by value: the frame of its graph and what it has counted. The weights, the masks and the states stay in their arrays, the queue in the pass.
+// A state of the run by value: what it has counted. The graph, the steps and the queue are values of their own beside it.
 #![tactic(auto)]
 
 ghost use Rattle.std.specs.Prelude.{◌≡◌, ◌+◌, ◌<◌};
 ghost use Rattle.rules.specs.Counts.{plus};
 ghost use Rattle.state.specs.Counting.{counts, Countable, OfUnit};
 
-use graph::Frame;
 use rules::Tally;
 
 pub mod steps; // the steps so far
 pub mod waiting; // who waits
 
-#[derive(Clone, Copy)]
+#[derive(Clone, Copy, Default)]
 pub struct State {
-    pub frame: Frame,
     pub tally: Tally,
     pub takes: u32,
     pub blocks: u32,
@@ -30,66 +28,72 @@ pub enum Did {
 }
 
 // The counts of one unit.
-pub fn counts_of(did: Did) -> Tally
-    ensures { result ≡ counts did }
-{
-    let mut r = Tally {
-        eliminated: 0,
-        three: 0,
-        skipped: 0,
-        contracted: 0,
-        weakly: 0,
-        in_blocks: 0,
-    };
-    match did {
-        Did::Nothing => {}
-        Did::Skipped => r.skipped = 1,
-        Did::Eliminated => r.eliminated = 1,
-        Did::Three => {
-            r.eliminated = 1;
-            r.three = 1;
+impl From<Did> for Tally {
+    ghost use Rattle.state.specs.Counting.{counts};
+
+    ghost from_gives = { λ did tally. tally ≡ counts did };
+
+    fn from(did: Did) -> Tally {
+        match did {
+            Did::Nothing => Tally::default(),
+            Did::Skipped => Tally {
+                skipped: 1,
+                ..Tally::default()
+            },
+            Did::Eliminated => Tally {
+                eliminated: 1,
+                ..Tally::default()
+            },
+            Did::Three => Tally {
+                eliminated: 1,
+                three: 1,
+                ..Tally::default()
+            },
+            Did::Contracted(weakly) => Tally {
+                contracted: 1,
+                weakly: u32::from(weakly),
+                ..Tally::default()
+            },
         }
-        Did::Contracted(weakly) => {
-            r.contracted = 1;
-            r.weakly = whole::one_if(weakly);
+    }
+}
+
+impl State {
+    // Each count with what is added to it.
+    #[tactic(auto, unfolding(rules::specs::Counts::plus))]
+    pub fn counting(self, more: Tally) -> State
+        requires { Countable self.tally × OfUnit more }
+        ensures { result ≡ record { tally = plus self.tally more; takes = self.takes; blocks = self.blocks } }
+    {
+        let t = self.tally;
+        let tally = Tally {
+            eliminated: t.eliminated + more.eliminated,
+            three: t.three + more.three,
+            skipped: t.skipped + more.skipped,
+            contracted: t.contracted + more.contracted,
+            weakly: t.weakly + more.weakly,
+            in_blocks: t.in_blocks + more.in_blocks,
+        };
+        State { tally, ..self }
+    }
+
+    // After a take: one unit more.
+    pub fn after(self, did: Did) -> State
+        requires { Countable self.tally × (self.takes < 4294967295) }
+        ensures { result ≡ record { tally = plus self.tally (counts did); takes = self.takes + 1; blocks = self.blocks } }
+    {
+        let counted = self.counting(Tally::from(did));
+        State {
+            takes: self.takes + 1,
+            ..counted
         }
     }
-    r
-}
 
-// Each count with what is added to it.
-pub fn more(t: Tally, u: Tally) -> Tally
-    requires { Countable t × OfUnit u }
-    ensures { result ≡ plus t u }
-{
-    Tally {
-        eliminated: t.eliminated + u.eliminated,
-        three: t.three + u.three,
-        skipped: t.skipped + u.skipped,
-        contracted: t.contracted + u.contracted,
-        weakly: t.weakly + u.weakly,
-        in_blocks: t.in_blocks + u.in_blocks,
+    // "One unit per take and one per block eliminated."
+    pub fn units(&self) -> u32
+        requires { self.now.takes + self.now.blocks < 4294967296 }
+        ensures { result ≡ self.now.takes + self.now.blocks }
+    {
+        self.takes + self.blocks
     }
-}
-
-// After a take: the frame that it left, and one unit more.
-pub fn after(s: State, frame: Frame, did: Did) -> State
-    requires { Countable s.tally × (s.takes < 4294967295) }
-    ensures { result ≡ record { frame = frame; tally = plus s.tally (counts did); takes = s.takes + 1; blocks = s.blocks } }
-{
-    let tally = more(s.tally, counts_of(did));
-    State {
-        frame: frame,
-        tally: tally,
-        takes: s.takes + 1,
-        blocks: s.blocks,
-    }
-}
-
-// "One unit per take and one per block eliminated."
-pub fn units(s: State) -> u32
-    requires { s.takes + s.blocks < 4294967296 }
-    ensures { result ≡ s.takes + s.blocks }
-{
-    s.takes + s.blocks
 }

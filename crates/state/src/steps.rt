@@ -1,37 +1,60 @@
 // The steps of a run so far, as a record holds them.
-ghost use Rattle.std.specs.Prelude.{◌≡◌, List, [], ◌∷◌, ◌++◌, ◌+◌, ◌<◌};
-ghost use Rattle.rules.specs.Eliminate as rule;
-ghost use Rattle.rules.specs.Record.{hold};
-ghost use Rattle.state.specs.Steps.{StepsKept};
+ghost use Rattle.std.specs.Prelude.{◌≡◌, [], ◌∷◌, ◌++◌, ◌-◌, ◌<◌, length, replicate};
+ghost use Rattle.rules.specs.Record.{no_step};
 
 use rules::Step;
+use std::marker::Model;
 
-// The first `count` of 64 places; the others are empty.
-#[derive(Clone, Copy)]
+// Kept: 64 places with a count beside them: the record has them all (project rule: fixed memory).
+#[derive(Drop)]
 pub struct Steps {
-    pub list: [Step; 64],
-    pub count: usize,
+    list: [Step; 64],
+    count: usize,
 }
 
-// None yet.
-pub fn no_steps() -> Steps
-    ensures { StepsKept result [] }
-{
-    let none = rules::no_step();
-    Steps {
-        list: [none; 64],
-        count: 0,
+// Clauses see the steps made; the other places are not used.
+impl Model for Steps {
+    ghost use Rattle.std.specs.Prelude.{List, take};
+    ghost use Rattle.rules.specs.declared.Step.{Step};
+    ghost use Rattle.state.specs.Steps.{StepsKept};
+
+    ghost Value = { List Step };
+
+    ghost view = { λ s. take s.count s.list };
+
+    ghost invariant = { StepsKept };
+}
+
+impl Steps {
+    // None yet.
+    pub fn new() -> Steps
+        ensures { result ≡ [] }
+    {
+        Steps {
+            list: [Step::default(); 64],
+            count: 0,
+        }
     }
-}
 
-// One more.
-pub fn with_step(s: Steps, x: Step) -> Steps
-    requires { s.count < 64 }
-    ensures { (result.count ≡ s.count + 1) × ((ss : List rule.Step) (y : rule.Step) → StepsKept s ss → x ≡ hold y → StepsKept result (ss ++ y ∷ [])) }
-{
-    let at = s.count;
-    let mut next = s;
-    next.list[at] = x;
-    next.count = at + 1;
-    next
+    // One more.
+    pub fn push(&mut self, step: Step)
+        requires { length self.old < 64 }
+        ensures { self.new ≡ self.old ++ step ∷ [] }
+    {
+        self.list[self.count] = step;
+        self.count += 1;
+    }
+
+    pub fn len(&self) -> usize
+        ensures { result ≡ length self.now }
+    {
+        self.count
+    }
+
+    // These, then those that are not used.
+    pub fn all(&self) -> &[Step; 64]
+        ensures { result.now ≡ self.now ++ replicate (64 - length self.now) no_step }
+    {
+        &self.list
+    }
 }

@@ -1,14 +1,12 @@
 -- The way that the code decides on, in the rules' words.
 -- Assumes nothing.
-use Rattle.std.specs.Prelude.{◌≡◌, cond, List, ℕ, ◌<◌, ◌≤◌, ℤ}
-use Rattle.rules.specs.Graph.{Graph, graph}
+use Rattle.std.specs.Prelude.{◌≡◌, cond, ℕ, ◌<◌, ◌≤◌}
+use Rattle.rules.specs.Graph.{Graph}
 use Rattle.rules.specs.DegreeThree.{cubic}
 use Rattle.rules.specs.DominantEdge.{Found, nothing, weak, dominant}
 use Rattle.rules.specs.Options.{dominant_edge}
 use Rattle.rules.specs.Run as run
 use Rattle.rules.specs.declared.Options.{Options}
-use Rattle.graph.specs.Near.{near_at}
-use Rattle.graph.specs.Shows.{Shows}
 use Rattle.graph.specs.declared.Near.{Near}
 use Rattle.take.specs.declared.way.Way.{Way}
 use Rattle.take.specs.declared.way.Way.TheVariants.{Inactive, Low, Into, Three, Idle}
@@ -36,7 +34,3 @@ Fitting Idle g i near = Unit
 pub record Decides (r : Way) (opt : Options) (g : Graph) (i : ℕ) (near : Near) : Type 0 where
   pub is : run.way opt g i ≡ way_of r g i
   pub fitting : Fitting r g i near
-
--- of every graph whose edges the masks show
-abbrev pub Decided : Way → Options → List ℤ → List ℤ → List ℕ → List ℕ → Near → ℕ → Type 0
-Decided r opt l e m ss near i = (n : ℕ) (c : ℤ) → n ≤ 64 → Shows n e m → near ≡ near_at (graph n c l e ss) i → Decides r opt (graph n c l e ss) i near

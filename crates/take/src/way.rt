@@ -1,14 +1,12 @@
 // Which way a take goes: decided before anything is done.
 ghost use Rattle.std.specs.Prelude.{◌≡◌, ◌&&◌, leb, eqb, ◌<◌};
-ghost use Rattle.whole.specs.Masks.{these};
-ghost use Rattle.rules.specs.Options.{low_degree, degree_three};
-ghost use Rattle.rules.specs.Graph.{Graph, neighbours};
 ghost use Rattle.accepted_laws.specs.Small.{Small};
+ghost use Rattle.rules.specs.Options.{low_degree, degree_three};
+ghost use Rattle.graph.specs.Near.{near_at};
 ghost use Rattle.dominant_edge.specs.Answer.{answer_of};
-ghost use Rattle.take.specs.Ways.{dominant_if, Decided};
+ghost use Rattle.take.specs.Ways.{dominant_if, Decides};
 
-use dominant_edge::Dominant;
-use graph::Near;
+use graph::{Graph, Near};
 use rules::Options;
 
 // Into: the dominant neighbour, and whether it is a weak one. Three: it is tried.
@@ -25,57 +23,40 @@ pub enum Way {
 fn is_low(options: Options, degree: usize) -> bool
     ensures { result ≡ (low_degree options && leb degree 2) }
 {
-    if options.low_degree {
-        return degree <= 2;
-    }
-    false
+    options.low_degree && degree <= 2
 }
 
 // Low degree and degree three both on and degree 3?
 fn is_three(options: Options, degree: usize) -> bool
     ensures { result ≡ (low_degree options && degree_three options && eqb degree 3) }
 {
-    if options.low_degree {
-        if options.degree_three {
-            return degree == 3;
-        }
-    }
-    false
+    options.low_degree && options.degree_three && degree == 3
 }
 
-// Dominant edge on: the dominant neighbour of i, if it has one; its neighbours are those of the mask m.
-fn dominant_if(lin: &[i64; 64], edges: &[i64; 4096], m: u64, i: usize, options: Options) -> Dominant
-    requires { (i < 64) × Small 1099511627776 lin.now × Small 2199023255552 edges.now }
-    ensures { (g : Graph) → g.linear ≡ lin.now → g.edges ≡ edges.now → these m ≡ neighbours g i → result ≡ answer_of g i (dominant_if options g i) }
+// Dominant edge on: the dominant neighbour of i and whether it is weak, if it has one.
+#[tactic(auto, unfolding(dominant_edge::specs::Answer::dominant_of))]
+fn dominant_if(g: &Graph, i: usize, options: Options) -> Option<(usize, bool)>
+    requires { (i < 64) × Small 1099511627776 g.now.linear × Small 2199023255552 g.now.edges }
+    ensures { result ≡ answer_of g.now i (dominant_if options g.now i) }
 {
     if options.dominant_edge {
-        let a = lin[i];
-        return dominant_edge::dominant_neighbour(edges, a, m, i);
+        return dominant_edge::dominant_neighbour(g, i);
     }
-    Dominant::Nothing
+    None
 }
 
 // Low degree, else a dominant neighbour, else degree three, else nothing.
-pub fn decide(
-    lin: &[i64; 64],
-    edges: &[i64; 4096],
-    masks: &[u64; 64],
-    states: &[u8; 64],
-    near: Near,
-    i: usize,
-    options: Options,
-) -> Way
-    requires { (i < 64) × Small 1099511627776 lin.now × Small 2199023255552 edges.now }
-    ensures { Decided result options lin.now edges.now masks.now states.now near i }
+pub fn decide(g: &Graph, near: Near, i: usize, options: Options) -> Way
+    requires { (i < 64) × Small 1099511627776 g.now.linear × Small 2199023255552 g.now.edges }
+    ensures { near ≡ near_at g.now i → Decides result options g.now i near }
 {
-    if states[i] != 2 {
+    if !g.is_active(i) {
         return Way::Inactive;
     }
     if is_low(options, near.count) {
         return Way::Low;
     }
-    let found = dominant_if(lin, edges, masks[i], i, options);
-    if let Dominant::Neighbour(j, weak) = found {
+    if let Some((j, weak)) = dominant_if(g, i, options) {
         return Way::Into(j, weak);
     }
     if is_three(options, near.count) {

@@ -1,118 +1,68 @@
 // back.txt: `KIND DAMAGE;LENT;OUT;ANSWER;WRITTEN`, an answer grown back or a plan projected.
-ghost use Rattle.std.specs.Prelude.{◌≤◌};
+use crate::{answers, damage, passed};
+use lists::{Fields, list};
+use rules::{Record, Refusal};
 
-use crate::{damage, passed};
-use lists::fill::Filled;
-use lists::place::LOST;
-use lists::{fill, place, told};
-use rules::Record;
-
-// The 8 bytes of the constant, the highest first.
-fn constant_of(block: &[u8]) -> u64 {
-    let mut v: u64 = 0;
-    let mut k: usize = 12;
-    while 4 < k {
-        k = k - 1;
-        v = v % 72057594037927936 * 256 + whole::wide(place::byte_at(block, k));
-    }
-    v
-}
-
-fn states_of(block: &[u8]) -> [u8; 64] {
-    let mut states = [0u8; 64];
-    let mut k = 0;
-    while k < 64 {
-        states[k] = place::byte_at(block, 12 + k);
-        k = k + 1;
-    }
-    states
-}
-
-// The fields of a block as they stand.
-fn record_of(block: &[u8]) -> Record {
-    Record {
-        n: place::byte_at(block, 1),
-        count: place::byte_at(block, 2),
-        constant: place::signed(constant_of(block)),
-        states: states_of(block),
-        steps: passed::steps_at(block, 76),
-    }
-}
-
-// 255 for a kind that there is not.
-fn called(kind: u64, block: &[u8], lent: &[u8], out: &mut [u8]) -> u8 {
-    match kind {
-        0 => back::grow::grow_back_block(block, lent, out),
-        1 => back::project::project_block(block, lent, out),
-        2 => back::grow::grow_back(record_of(block), lent, out),
-        3 => back::project::project(record_of(block), lent, out),
-        _ => 255,
-    }
-}
-
-// The lengths that an entry asks for.
 #[derive(Clone, Copy)]
-struct Long {
-    block: u64,
-    lent: usize,
-    out: u64,
+enum Kind {
+    GrowBackBlock,
+    ProjectBlock,
+    GrowBack,
+    Project,
 }
 
-fn called_fronts(kind: u64, long: Long, block: &[u8], lent: &[u8], out: &mut [u8]) -> u8 {
-    if 1024 < long.block {
-        return 255;
+impl TryFrom<u8> for Kind {
+    type Error = ();
+
+    fn try_from(number: u8) -> Result<Kind, ()> {
+        match number {
+            0 => Ok(Kind::GrowBackBlock),
+            1 => Ok(Kind::ProjectBlock),
+            2 => Ok(Kind::GrowBack),
+            3 => Ok(Kind::Project),
+            _ => Err(()),
+        }
     }
-    if 1024 < long.out {
-        return 255;
-    }
-    let b = long.block as usize;
-    let l = long.lent;
-    let o = long.out as usize;
-    if block.len() < b {
-        return 255;
-    }
-    if lent.len() < l {
-        return 255;
-    }
-    if out.len() < o {
-        return 255;
-    }
-    called(kind, &block[0..b], &lent[0..l], &mut out[0..o])
 }
 
-// A LIST of bytes, up to the byte `end`.
-fn put_bytes(line: &[u8], at: usize, end: u8, out: &mut [u8]) -> Filled {
-    let mut list = [0u64; 128];
-    let f = fill::list(line, at, end, &mut list);
-    if !fill::bytes_of(&list, f.count, out) {
-        return Filled {
-            count: 0,
-            next: LOST,
-        };
+// The fields of a block as they stand; what it lacks is zero.
+fn record_of(block: &[u8]) -> Record {
+    let mut whole = [0u8; 512];
+    for (to, from) in whole.iter_mut().zip(block) {
+        *to = *from;
     }
-    f
+    Record {
+        n: whole[1],
+        count: whole[2],
+        constant: i64::from_le_bytes(whole[4..12].try_into().unwrap()),
+        states: whole[12..76].try_into().unwrap(),
+        steps: passed::steps_of(&whole[76..460]),
+    }
+}
+
+// Kept: a match, since the kind is read from each line.
+fn called(kind: Kind, block: &[u8], lent: &[u8], out: &mut [u8]) -> Result<(), Refusal> {
+    match kind {
+        Kind::GrowBackBlock => back::grow::grow_back_block(block, lent, out),
+        Kind::ProjectBlock => back::project::project_block(block, lent, out),
+        Kind::GrowBack => back::grow::grow_back(record_of(block), lent, out),
+        Kind::Project => back::project::project(record_of(block), lent, out),
+    }
 }
 
 // What is not told to be written stays as it was.
-pub fn agrees(line: &[u8], bases: &[u8]) -> bool {
+pub fn agrees(line: &[u8], bases: &[u8]) -> Option<bool> {
     let mut block = [0u8; 1024];
     let mut lent = [0u8; 128];
     let mut out = [170u8; 128];
     let mut told = [170u8; 128];
-    let kind = place::number(line, 0);
-    let d = damage::damage(line, place::pass(line, kind.next, 32), bases, &mut block);
-    let l = put_bytes(line, d.next, 59, &mut lent);
-    let o = place::number(line, l.next);
-    let long = Long {
-        block: d.length,
-        lent: l.count,
-        out: o.value,
-    };
-    let answer = called_fronts(kind.value, long, &block, &lent, &mut out);
-    let p = told::number(line, place::pass(line, o.next, 59), answer as u64, 59);
-    let w = put_bytes(line, p, 10, &mut told);
-    if w.next != line.len() {
-        return false;
-    }
-    told::same(&told, &out)
+    let mut fields = Fields { rest: line };
+    let kind = Kind::try_from(fields.number::<u8>(b' ')?).ok()?;
+    let block = damage::damaged(&mut fields, bases, &mut block)?;
+    let lent = list(fields.until(b';')?, &mut lent)?;
+    let length = fields.number::<usize>(b';')?;
+    let answer = called(kind, block, lent, out.get_mut(..length)?);
+    let is_answered = fields.number::<u8>(b';')? == answers::number_of(&answer);
+    list(fields.until(b'\n')?, &mut told)?;
+    Some(is_answered && told == out && fields.rest.is_empty())
 }

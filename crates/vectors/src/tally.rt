@@ -1,111 +1,64 @@
 // The entries of a list, one after the other.
-ghost use Rattle.std.specs.Prelude.{◌≤◌, length};
+ghost use Rattle.std.specs.Prelude.{◌<◌, length, IfSome};
 
-use crate::{calls, objectives, passed, plans, records, texts};
-
-#[derive(Clone, Copy)]
-pub enum Kind {
-    Records,
-    Passed,
-    Texts,
-    Objectives,
-    Refusals,
-    Crowded,
-    Back,
-}
+use std::fmt;
 
 // How many ran, how many agreed, and the first that does not.
-#[derive(Clone, Copy)]
+#[derive(Clone, Copy, Default)]
 pub struct Tally {
-    pub ran: u64,
-    pub agreed: u64,
-    pub first: u64,
+    ran: u64,
+    agreed: u64,
+    first: Option<u64>,
 }
 
-#[derive(Clone, Copy)]
-pub struct Part {
-    pub tally: Tally,
-    pub used: usize,
-}
-
-// The place after the next newline, or `at` where there is none.
-fn line_end(text: &[u8], at: usize) -> usize
-    requires { at ≤ length text.now }
-    ensures { (at ≤ result) × (result ≤ length text.now) }
+// The next entry, of so many lines, where it is all there; and what stands behind it.
+fn split_entry(text: &[u8], lines: usize) -> Option<(&[u8], &[u8])>
+    ensures { IfSome result (λ parts. length parts.1.now < length text.now) }
 {
-    let mut i = at;
-    while i < text.len() {
-        if text[i] == 10 {
-            return i + 1;
+    let mut newlines = text.iter().enumerate().filter(|(_, b)| **b == b'\n');
+    let (last, _) = newlines.nth(lines.checked_sub(1)?)?;
+    text.split_at_checked(last.checked_add(1)?)
+}
+
+impl Tally {
+    fn count(&mut self, agrees: bool) {
+        self.ran = self.ran.wrapping_add(1);
+        if agrees {
+            self.agreed = self.agreed.wrapping_add(1);
+        } else {
+            self.first = self.first.or(Some(self.ran));
         }
-        i = i + 1;
     }
-    at
-}
 
-// The place after an entry's last line, or `at` where it is not all there.
-fn entry_end(text: &[u8], at: usize, lines: usize) -> usize
-    requires { at ≤ length text.now }
-    ensures { (at ≤ result) × (result ≤ length text.now) }
-{
-    let mut i = at;
-    let mut left = lines;
-    while 0 < left {
-        let end = line_end(text, i);
-        if end == i {
-            return at;
+    // The entries that are all there: how many bytes they take. A text that holds none and is not empty counts as one that does not agree.
+    pub fn run<Agrees: Fn(&[u8]) -> Option<bool>>(
+        &mut self,
+        text: &[u8],
+        lines: usize,
+        agrees: &Agrees,
+    ) -> usize
+        requires { Agrees.IsAlwaysCallable agrees.now }
+    {
+        let mut rest = text;
+        while let Some((entry, others)) = split_entry(rest, lines) {
+            self.count(agrees(entry) == Some(true));
+            rest = others;
         }
-        i = end;
-        left = left - 1;
-    }
-    i
-}
-
-fn agrees(kind: Kind, entry: &[u8], bases: &[u8]) -> bool {
-    match kind {
-        Kind::Records => records::agrees(entry, bases),
-        Kind::Passed => passed::agrees(entry),
-        Kind::Texts => texts::agrees(entry),
-        Kind::Objectives => objectives::agrees(entry),
-        Kind::Refusals => calls::agrees(entry, false),
-        Kind::Crowded => calls::agrees(entry, true),
-        Kind::Back => plans::agrees(entry, bases),
-    }
-}
-
-pub fn counted(t: Tally, agrees: bool) -> Tally {
-    let ran = std::num::wrapping_add_u64(t.ran, 1);
-    if agrees {
-        return Tally {
-            ran,
-            agreed: std::num::wrapping_add_u64(t.agreed, 1),
-            first: t.first,
-        };
-    }
-    let first = if t.first == 0 { ran } else { t.first };
-    Tally {
-        ran,
-        agreed: t.agreed,
-        first,
-    }
-}
-
-// The entries that are all there, and how many bytes they take. A text that holds none and is not empty counts as one that does not agree.
-pub fn over(text: &[u8], kind: Kind, lines: usize, bases: &[u8], tally: Tally) -> Part {
-    let mut t = tally;
-    let mut at = 0;
-    while at < text.len() {
-        let end = entry_end(text, at, lines);
-        if end <= at {
-            return stopped(t, at);
+        if rest.len() == text.len() && !text.is_empty() {
+            self.count(false);
         }
-        t = counted(t, agrees(kind, &text[at..end], bases));
-        at = end;
+        text.len() - rest.len()
     }
-    Part { tally: t, used: at }
 }
 
-fn stopped(t: Tally, at: usize) -> Part {
-    let tally = if at == 0 { counted(t, false) } else { t };
-    Part { tally, used: at }
+impl fmt::Display for Tally {
+    fn fmt<W: fmt::Write>(&self, f: &mut fmt::Formatter<W>) -> fmt::Result {
+        let ran = self.ran;
+        let agreed = self.agreed;
+        write!(f, "ran {ran} agreed {agreed}")?;
+        if let Some(first) = self.first {
+            write!(f, " first that does not {first}")?;
+        }
+        Ok(())
+    }
 }

@@ -8,12 +8,5 @@ ghost use Rattle.rules.specs.Back.{play_all};
 pub fn walk_back(steps: &[rules::Step], plan: [u8; 64]) -> [u8; 64]
     ensures { result ≡ play_all (map played steps.now) plan }
 {
-    let mut x = plan;
-    let mut k = steps.len();
-    while k > 0 {
-        k -= 1;
-        let next = back::play::play_step(steps[k], x);
-        x = next;
-    }
-    x
+    back::play::play_back(steps, plan)
 }

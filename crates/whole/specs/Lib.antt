@@ -14,4 +14,6 @@ pub mod Members
 pub mod Pigeon
 pub mod Those
 pub mod Masks
+pub mod Walks
 pub mod Sift
+pub mod Chains

@@ -1,7 +1,7 @@
 -- Decisions as the bits of a 64-bit mask: each operation bit by bit, and the lowest bit taken off.
 -- Assumes nothing.
 use Rattle.std.specs.Prelude.{◌≡◌, refl, Bool, true, false, cond, not, ◌&&◌, ◌||◌, List, [], ◌∷◌, ◌++◌, ◌≢◌, ℕ, zero, suc, ◌+◌, ◌*◌, ◌-◌, ◌/◌, ◌%◌, ◌^◌, ◌<◌, ◌≤◌, min, max, ltb, eqb, length, take, set}
-use Rattle.std.proofs.Common.{sym, ap, ap₂, ◌∙◌, append_assoc, arith, pow-suc, mod-eq_of_lt, one-mul, mul_comm, div-one, add-zero, zero-add, add-one, take-suc-set, lt-ltb, le-ltb, ltb-true, ne_eqb, eq-eqb, eqb-true}
+use Rattle.std.proofs.Common.{sym, ap, ap₂, ◌∙◌, append_assoc, arith, pow-suc, mod-eq_of_lt, one-mul, mul_comm, div-one, add-zero, zero-add, add-one, take-suc-set, lt-ltb, le-ltb, ltb-true, ne_eqb, eqb-true}
 use Rattle.std.proofs.Math.Bool.{and-true as and_yes, and-false, or-false}
 use Rattle.std.proofs.Math.Nat.{div-div-eq-div-mul, div-eq_of_lt, sub_self, pow-le-pow_right}
 use Rattle.std.proofs.Math.Dec.{eqb-suc-suc}

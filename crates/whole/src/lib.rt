@@ -1,9 +1,15 @@
 // Laws of whole numbers, sums, lists and masks, and the few words the rules are written with, in specs/; here the same words for the code.
 #![tactic(auto)]
 
+mod masks;
+mod members;
+
 ghost use Rattle.std.specs.Prelude.{◌≡◌, ◌≤◌};
 ghost use Rattle.whole.specs.Words.{one_if};
 ghost use Rattle.whole.specs.Masks.{without as less};
+
+pub use masks::{has, single, those};
+pub use members::Members;
 
 // A byte as a number of 64 bits.
 pub fn wide(b: u8) -> u64

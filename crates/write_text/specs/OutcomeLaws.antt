@@ -34,6 +34,10 @@ unfolding remaining_of
 remaining_most states n =
     omega (arith, those_most (λ i. eqb (get_or (take n states) i 0) 2) (length (take n states)), length-take n states)
 
+pub remaining_few : (states : List ℕ) → length (remaining_of states) ≤ length states
+unfolding remaining_of
+remaining_few states = those_most (λ i. eqb (get_or states i 0) 2) (length states)
+
 -- the first d of three are at most three
 near_most : (d a b c : ℕ) → length (take d (a ∷ b ∷ c ∷ [])) ≤ 3
 near_most d a b c = omega (arith, length-take d (a ∷ b ∷ c ∷ []))

@@ -1,14 +1,15 @@
 -- What the caller of a reduction holds, as the outcome that it says; and the parts of its text.
 -- Assumes nothing.
-use Rattle.std.specs.Prelude.{◌≡◌, Bool, List, [], ◌∷◌, ◌++◌, ℕ, ◌≤◌, length, get_or, ℤ}
+use Rattle.std.specs.Prelude.{◌≡◌, Bool, List, [], ◌∷◌, ◌++◌, ℕ, ◌≤◌, length, get_or, ℤ, Result, Ok, Err}
 use Rattle.rules.specs.Bytes.{bytes}
 use Rattle.rules.specs.Outcome.{Outcome}
 use Rattle.rules.specs.Back.{remaining_of}
 use Rattle.rules.specs.Record.{states_of, steps_of, no_step}
 use Rattle.rules.specs.WriteText.{shown, shown_z, listed, listed_z, yes_no, written, written_refusal}
-use Rattle.rules.specs.Call.{unless}
+use Rattle.rules.specs.Numbers.{number_of}
 use Rattle.rules.specs.declared.Record.{Record}
 use Rattle.rules.specs.declared.Reduction.{Reduction}
+use Rattle.rules.specs.declared.refusal.Refusal.{Refusal}
 
 -- the outcome in a reduction and its two outputs
 unfoldable pub outcome_in : Reduction → List ℤ → List ℤ → Outcome
@@ -42,9 +43,10 @@ pub record Fair (r : Reduction) (linear edges : List ℤ) : Type 0 where
 abbrev pub room : ℕ
 room = 77824
 
--- what is written of a reduction and its outputs
-unfoldable pub replied : Reduction → List ℤ → List ℤ → List ℕ
-replied r l e = unless r.answer (written (outcome_in r l e)) (written_refusal r.answer)
+-- what is written of a call: its reduction and its outputs, or its refusal
+unfoldable pub replied : Result Reduction Refusal → List ℤ → List ℤ → List ℕ
+replied (Ok r) l e = written (outcome_in r l e)
+replied (Err k) l e = written_refusal (number_of k)
 
 -- a result's text before its edges, and after its steps
 unfoldable pub opening : ℤ → List ℕ → List ℤ → List ℕ

@@ -1,8 +1,12 @@
 -- What the writers' definitions say, as a writer's code meets it.
 -- Assumes nothing.
-use Rattle.std.specs.Prelude.{◌≡◌, refl, Bool, true, false, List, [], ◌∷◌, ◌++◌, ℕ, zero, suc, ◌+◌, ◌/◌, ◌%◌, ◌^◌, ◌<◌, ◌≤◌, length, get_or, take, drop, ℤ, pos}
-use Rattle.std.proofs.Common.{ap, append_assoc, add-one, arith, length-append, drop_of_length-le, drop-cons}
-use Rattle.whole.specs.Words.{is_zero_z}
+use Rattle.std.specs.Prelude.{◌≡◌, refl, Bool, true, false, List, [], ◌∷◌, ◌++◌, ℕ, zero, suc, ◌+◌, ◌-◌, ◌/◌, ◌%◌, ◌^◌, ◌<◌, ◌≤◌, bit_and, length, get_or, take, drop, ℤ, pos}
+use Rattle.std.proofs.Common.{ap, sym, subst, append_assoc, add-one, arith, length-append, drop_of_length-le, drop-cons, pow-suc, sub-eq-zero_of_le}
+use Rattle.std.proofs.Math.Nat.{div-div-eq-div-mul}
+use Rattle.std.proofs.lemmas.Nat.{and_mask}
+use Rattle.whole.specs.Words.{is_zero_z, those, from}
+use Rattle.whole.specs.Counts.{one_left}
+use Rattle.whole.specs.Those.{rest_more, rest_end}
 use Rattle.whole.specs.Cmp.{zero_of}
 use Rattle.whole.specs.Tests.{refuse}
 use Rattle.rules.specs.Eliminate.{Step}
@@ -51,6 +55,33 @@ closing_length u b = simp length-append (omega arith)
 pub zero_no : (w : ℤ) → (w ≡ pos 0 → ⊥) → is_zero_z w ≡ false
 zero_no w h = refuse (is_zero_z w) (λ t. h (zero_of w t))
 
+-- each element after one space, by its text
+unfoldable pub listed_by : {A : Type 0} → (A → List ℕ) → List A → List ℕ
+listed_by f [] = []
+listed_by f (x ∷ xs) = 32 ∷ f x ++ listed_by f xs
+
+pub listed_plain : (xs : List ℕ) → listed_by shown xs ≡ listed xs
+unfolding listed_by listed
+listed_plain [] = refl
+listed_plain (x ∷ xs) = rw (listed_plain xs)
+
+pub listed_signed : (ws : List ℤ) → listed_by shown_z ws ≡ listed_z ws
+unfolding listed_by listed_z
+listed_signed [] = refl
+listed_signed (w ∷ ws) = rw (listed_signed ws)
+
+pub listed_by_left : {A : Type 0} (f : A → List ℕ) (xs : List A) (d : A) (j : ℕ) → j < length xs → Begins (listed_by f (drop j xs)) (32 ∷ f (get_or xs j d)) (listed_by f (drop (j + 1) xs))
+unfolding listed_by
+listed_by_left f xs d j h = record { parts = rw (drop-cons xs j d h, add-one) }
+
+-- x is the element at j, as a loop over the list has it
+pub listed_by_item : {A : Type 0} (f : A → List ℕ) (xs : List A) (j : ℕ) (x : A) → j < length xs → x ≡ get_or xs j x → Begins (listed_by f (drop j xs)) (32 ∷ f x) (listed_by f (drop (j + 1) xs))
+listed_by_item f xs j x h e = subst (λ y. Begins (listed_by f (drop j xs)) (32 ∷ f y) (listed_by f (drop (j + 1) xs))) (sym e) (listed_by_left f xs x j h)
+
+pub listed_by_none : {A : Type 0} (f : A → List ℕ) (xs : List A) (j : ℕ) → length xs ≤ j → listed_by f (drop j xs) ≡ []
+unfolding listed_by
+listed_by_none f xs j h = rw (drop_of_length-le xs h)
+
 -- what is left of a list at the place j
 pub listed_left : (xs : List ℕ) (j : ℕ) → j < length xs → Begins (listed (drop j xs)) (32 ∷ shown (get_or xs j 0)) (listed (drop (j + 1) xs))
 unfolding listed
@@ -91,6 +122,27 @@ choices_first (suc k) (suc n) m h = ap (λ (t : List ℕ). m % 2 ∷ t) (choices
 pub byte_first : (k m : ℕ) → k ≤ 8 → take k (m % 2 ∷ m / 2 % 2 ∷ m / 2 / 2 % 2 ∷ m / 2 / 2 / 2 % 2 ∷ m / 2 / 2 / 2 / 2 % 2 ∷ m / 2 / 2 / 2 / 2 / 2 % 2 ∷ m / 2 / 2 / 2 / 2 / 2 / 2 % 2 ∷ m / 2 / 2 / 2 / 2 / 2 / 2 / 2 % 2 ∷ []) ≡ choices_of k m
 unfolding choices_of
 byte_first k m h = choices_first k 8 m h
+
+-- what is left of k choices at the place i
+pub choices_left : (k m i : ℕ) → i < k → Begins (listed (choices_of (k - i) (m / 2 ^ i))) (32 ∷ shown (bit_and (m / 2 ^ i) 1)) (listed (choices_of (k - (i + 1)) (m / 2 ^ (i + 1))))
+unfolding listed choices_of
+choices_left k m i h =
+    let e : m / 2 ^ i / 2 ≡ m / 2 ^ (i + 1) = rw (add-one, pow-suc, div-div-eq-div-mul) in
+    record { parts = rw (one_left k i h, and_mask (m / 2 ^ i) 1, e) }
+
+pub choices_none : (k m i : ℕ) → k ≤ i → listed (choices_of (k - i) (m / 2 ^ i)) ≡ []
+unfolding listed choices_of
+choices_none k m i h = rw (sub-eq-zero_of_le h)
+
+-- and of the decisions that pass a test, those from i on
+module _ (p : ℕ → Bool) (n i : ℕ) where
+  pub those_left : i < n → p i ≡ true → Begins (listed (those p (from i (n - i)))) (32 ∷ shown i) (listed (those p (from (i + 1) (n - (i + 1)))))
+  unfolding listed
+  those_left h e = record { parts = rw (rest_more p n i h e) }
+
+  pub those_none : n ≤ i → listed (those p (from i (n - i))) ≡ []
+  unfolding listed
+  those_none h = rw (rest_end p n i h)
 
 pub steps_left : (ss : List Step) (d : Step) (j : ℕ) → j < length ss → Begins (step_lines (drop j ss)) (step_line (get_or ss j d)) (step_lines (drop (j + 1) ss))
 unfolding step_lines

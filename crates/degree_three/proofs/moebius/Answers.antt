@@ -5,32 +5,11 @@ use Rattle.whole.specs.Words.{tab}
 use Rattle.std.proofs.Common.{refl}
 use Rattle.degree_three.proofs.moebius.Goals as goal
 
-pub overflow_sub-s1 : goal.overflow_sub-s1
-overflow_sub-s1 c = (entry.s1 c.args.t c.requires).fits
-
-pub overflow_sub-s3 : goal.overflow_sub-s3
-overflow_sub-s3 c = (entry.s3 c.args.t c.requires).fits
-
-pub overflow_sub-s5 : goal.overflow_sub-s5
-overflow_sub-s5 c = (entry.s5 c.args.t c.requires).fits
-
-pub overflow_sub-s7 : goal.overflow_sub-s7
-overflow_sub-s7 c = (entry.s7 c.args.t c.requires).fits
-
-pub overflow_sub-u2 : goal.overflow_sub-u2
-overflow_sub-u2 c = (entry.u2 c.args.t c.requires).fits
-
 pub overflow_sub-u3 : goal.overflow_sub-u3
 overflow_sub-u3 c = (entry.u3 c.args.t c.requires).fits
 
-pub overflow_sub-u6 : goal.overflow_sub-u6
-overflow_sub-u6 c = (entry.u6 c.args.t c.requires).fits
-
 pub overflow_sub-u7 : goal.overflow_sub-u7
 overflow_sub-u7 c = (entry.u7 c.args.t c.requires).fits
-
-pub overflow_sub-e4 : goal.overflow_sub-e4
-overflow_sub-e4 c = (entry.e4 c.args.t c.requires).fits
 
 pub overflow_sub-e5 : goal.overflow_sub-e5
 overflow_sub-e5 c = (entry.e5 c.args.t c.requires).fits

@@ -1,91 +1,46 @@
-use Rattle.whole.specs.Parts.{∣◌∣}
-use Rattle.dominant_edge.proofs.Finding.{edges_to, negatives_turn, positives_turn, negatives_end, positives_end, made}
-use Rattle.rules.specs.DominantEdge.{negatives, positives}
-use Rattle.rules.specs.Graph.{lin, neighbours}
-use Rattle.whole.specs.Words.{below0, above0}
-use Rattle.whole.specs.Masks.{these, these_apart, turn as taking}
-use Rattle.whole.specs.Pigeon.{pigeon}
-use Rattle.whole.specs.Sum.{sum_next, sum_end}
-use Rattle.accepted_laws.specs.Small.{Small, small_map}
-use Rattle.size_laws.specs.Sizes.{lo_size, hi_size}
-use Rattle.std.proofs.lemmas.List.{length-map}
-use Rattle.whole.specs.Ints.{rd}
 use Rattle.std.specs.Int.{w64}
-use lib.Count.{count_trailing_zeros}
-use Rattle.std.proofs.Common.{◌≡◌, ℕ, ◌+◌, ◌*◌, ◌^◌, ◌≤◌, List, length, get_or, ℤ, pos, ◌+ℤ◌, to_z, of_z, sym, ap₂, ◌∙◌, arith}
+use Rattle.std.proofs.Common.{to_z, ap, ap₂, ◌≤◌, ◌*◌, ◌+◌, ℤ, arith}
+use Rattle.whole.specs.Parts.{∣◌∣}
+use Rattle.whole.specs.Words.{below0, above0}
+use Rattle.whole.specs.Sum.{sum_next}
+use Rattle.dominant_edge.proofs.Finding.{lo_small, hi_small, Turn, turn, negatives_turn, positives_turn, negatives_end, positives_end}
 use Rattle.dominant_edge.proofs.bounds_of.Goals as goal
 
--- the sums so far, from the whole and what is left
-module _ (e : List ℤ) (i : ℕ) (s : Small 2199023255552 e) (a : ℤ) (weight_small : ∣ a ∣ ≤ 1099511627776) (m rest : ℕ) (x : ℤ) where
-  abbrev among : ℕ → List ℤ
-  among m = edges_to e i (these m)
-
-  each : (m : ℕ) → Small 2199023255552 (among m)
-  each m = small_map (λ j. get_or e (64 * i + j) (pos 0)) (these m) (λ j. s.each (64 * i + j))
-
-  few : (m : ℕ) → length (among m) ≤ 64
-  few m = omega (arith, length-map (these m) (λ j. get_or e (64 * i + j) (pos 0)), pigeon 64 (these_apart m))
-
-  lo_small : x +ℤ negatives (among rest) ≡ a +ℤ negatives (among m) → ∣ x ∣ ≤ 2 ^ 50
-  lo_small q = omega (arith, lo_size a (among m) weight_small (each m) (among rest) x (each rest) (few m) (few rest) q)
-
-  hi_small : x +ℤ positives (among rest) ≡ a +ℤ positives (among m) → ∣ x ∣ ≤ 2 ^ 50
-  hi_small q = omega (arith, hi_size a (among m) weight_small (each m) (among rest) x (each rest) (few m) (few rest) q)
+turned : (c : goal.After-min-below) → Turn (to_z w64 c.loop-j.lo-bits) (to_z w64 c.loop-j.hi-bits) c.edge-w.result c.min-below.result
+turned c =
+    let l = c.loop-j in
+    let v = l.invariant in
+    let s = c.requires in
+    let a = c.args in
+    let g = a.g.now in
+    let small : ∣ c.edge-w.result ∣ ≤ 2199023255552 = omega (arith, ap ∣◌∣ c.edge-w.ensures, s.2.each (64 * a.i + c.in-Some.j)) in
+    turn (to_z w64 l.lo-bits) (to_z w64 l.hi-bits) c.edge-w.result c.min-below.result (lo_small g a.i s.1 s.2 c.mask.result c.mask.ensures l.j-iterator.0 (to_z w64 l.lo-bits) v.0) (hi_small g a.i s.1 s.2 c.mask.result c.mask.ensures l.j-iterator.0 (to_z w64 l.hi-bits) v.1) small c.min-below.ensures.value
 
 pub overflow_add-lo : goal.overflow_add-lo
-overflow_add-lo c =
-    let a = c.args in
-    let l = c.loop-rest in
-    let s = c.requires in
-    let small : ∣ to_z w64 (of_z w64 a.a) ∣ ≤ 1099511627776 = rw (rd c.ranges.a) c.requires.1 in
-    let e = a.edges.now in
-    let t = made (to_z w64 l.lo-bits) (to_z w64 l.hi-bits) (get_or e (64 * a.i + count_trailing_zeros 64 l.rest) (pos 0)) c.smaller-below.result (lo_small e a.i s.2 (to_z w64 (of_z w64 a.a)) small a.m l.rest (to_z w64 l.lo-bits) l.invariant.1) (hi_small e a.i s.2 (to_z w64 (of_z w64 a.a)) small a.m l.rest (to_z w64 l.hi-bits) l.invariant.2)
-    (s.2.each (64 * a.i + count_trailing_zeros 64 l.rest)) c.smaller-below.ensures in
-    t.lo_fits
+overflow_add-lo c = (turned c).lo_fits
 
 pub overflow_add-hi : goal.overflow_add-hi
-overflow_add-hi c =
-    let a = c.args in
-    let l = c.loop-rest in
-    let s = c.requires in
-    let small : ∣ to_z w64 (of_z w64 a.a) ∣ ≤ 1099511627776 = rw (rd c.ranges.a) c.requires.1 in
-    let e = a.edges.now in
-    let t = made (to_z w64 l.lo-bits) (to_z w64 l.hi-bits) (get_or e (64 * a.i + count_trailing_zeros 64 l.rest) (pos 0)) c.smaller-below.result (lo_small e a.i s.2 (to_z w64 (of_z w64 a.a)) small a.m l.rest (to_z w64 l.lo-bits) l.invariant.1) (hi_small e a.i s.2 (to_z w64 (of_z w64 a.a)) small a.m l.rest (to_z w64 l.hi-bits) l.invariant.2)
-    (s.2.each (64 * a.i + count_trailing_zeros 64 l.rest)) c.smaller-below.ensures in
-    t.hi_fits
+overflow_add-hi c = (turned c).hi_fits
 
-pub loop-rest-preserved : goal.loop-rest-preserved
-loop-rest-preserved c =
-    let a = c.args in
-    let l = c.loop-rest in
+pub loop-j-preserved : goal.loop-j-preserved
+loop-j-preserved c =
+    let l = c.loop-j in
     let v = l.invariant in
-    let d = c.loop-rest-test.true in
-    let s = c.requires in
-    let small : ∣ to_z w64 (of_z w64 a.a) ∣ ≤ 1099511627776 = rw (rd c.ranges.a) c.requires.1 in
-    let e = a.edges.now in
-    let w : ℤ = get_or e (64 * a.i + count_trailing_zeros 64 l.rest) (pos 0) in
-    let t = made (to_z w64 l.lo-bits) (to_z w64 l.hi-bits) w c.smaller-below.result (lo_small e a.i s.2 (to_z w64 (of_z w64 a.a)) small a.m l.rest (to_z w64 l.lo-bits) v.1) (hi_small e a.i s.2 (to_z w64 (of_z w64 a.a)) small a.m l.rest (to_z w64 l.hi-bits) v.2)
-    (s.2.each (64 * a.i + count_trailing_zeros 64 l.rest)) c.smaller-below.ensures in (
-      (taking l.rest d v.0).smaller,
-      sum_next (to_z w64 l.lo-bits) _ (below0 w) _ _ _ t.lo_next (negatives_turn e a.i l.rest d v.0) v.1,
-      sum_next (to_z w64 l.hi-bits) _ (above0 w) _ _ _ t.hi_next (positives_turn e a.i l.rest d v.0) v.2,
+    let t = turned c in
+    let step = c.in-Some.ensures.steps in (
+      sum_next (to_z w64 l.lo-bits) _ (below0 c.edge-w.result) _ _ _ t.lo_next (negatives_turn c.args.g.now c.args.i c.in-Some.j _ _ c.edge-w.result step c.edge-w.ensures) v.0,
+      sum_next (to_z w64 l.hi-bits) _ (above0 c.edge-w.result) _ _ _ t.hi_next (positives_turn c.args.g.now c.args.i c.in-Some.j _ _ c.edge-w.result step c.edge-w.ensures) v.1,
     )
 
 pub returns : goal.returns
 returns c =
     let a = c.args in
-    let s = c.requires in
-    let l = c.loop-rest in
+    let l = c.loop-j in
     let v = l.invariant in
-    let small : ∣ to_z w64 (of_z w64 a.a) ∣ ≤ 1099511627776 = rw (rd c.ranges.a) c.requires.1 in
-    let e = a.edges.now in
-    let z = c.loop-rest-test.false in (
-      λ g seen.
-          let r : to_z w64 (of_z w64 a.a) ≡ lin g a.i = rd c.ranges.a ∙ sym seen.weight in
-          let same : edges_to e a.i (these a.m) ≡ edges_to g.edges a.i (neighbours g a.i) = ap₂ (λ (x : List ℤ) (js : List ℕ). edges_to x a.i js) (sym seen.edges) seen.around in (
-            sum_end (to_z w64 l.lo-bits) (negatives (edges_to e a.i (these l.rest))) _ (negatives_end e a.i l.rest z) (v.1 ∙ ap₂ (λ (x : ℤ) (ws : List ℤ). x +ℤ negatives ws) r same),
-            sum_end (to_z w64 l.hi-bits) (positives (edges_to e a.i (these l.rest))) _ (positives_end e a.i l.rest z) (v.2 ∙ ap₂ (λ (x : ℤ) (ws : List ℤ). x +ℤ positives ws) r same),
-          ),
-      lo_small e a.i s.2 (to_z w64 (of_z w64 a.a)) small a.m l.rest (to_z w64 l.lo-bits) v.1,
-      hi_small e a.i s.2 (to_z w64 (of_z w64 a.a)) small a.m l.rest (to_z w64 l.hi-bits) v.2,
+    let s = c.requires in
+    let g = a.g.now in
+    let z = c.in-None.ensures.steps.0 in (
+      ap₂ (λ (x y : ℤ). record { lo = x; hi = y }) (negatives_end g a.i _ (to_z w64 l.lo-bits) z v.0) (positives_end g a.i _ (to_z w64 l.hi-bits) z v.1),
+      lo_small g a.i s.1 s.2 c.mask.result c.mask.ensures l.j-iterator.0 (to_z w64 l.lo-bits) v.0,
+      hi_small g a.i s.1 s.2 c.mask.result c.mask.ensures l.j-iterator.0 (to_z w64 l.hi-bits) v.1,
     )

@@ -1,14 +1,10 @@
-use Rattle.std.proofs.Common.{◌≡◌, ◌<◌, ◌^◌, ◌+ℤ◌}
-use Rattle.dominant_edge.proofs.Finding.{edges_to}
-use Rattle.rules.specs.DominantEdge.{negatives, positives}
+use Rattle.std.proofs.Common.{◌≡◌, ◌+ℤ◌}
 use Rattle.whole.specs.Masks.{these}
+use Rattle.rules.specs.Graph.{row}
+use Rattle.rules.specs.DominantEdge.{negatives, positives, lo, hi}
 use Rattle.dominant_edge.proofs.bounds_of.Given as goal
 
-abbrev pub invariant-loop-rest : goal.invariant-loop-rest
-invariant-loop-rest l =
-    (l.rest < 2 ^ 64)
-    × (l.lo +ℤ negatives (edges_to l.edges l.i (these l.rest)) ≡ l.a +ℤ negatives (edges_to l.edges l.i (these l.m)))
-    × (l.hi +ℤ positives (edges_to l.edges l.i (these l.rest)) ≡ l.a +ℤ positives (edges_to l.edges l.i (these l.m)))
-
-abbrev pub decreases-loop-rest : goal.decreases-loop-rest
-decreases-loop-rest l = l.rest
+abbrev pub invariant-loop-j : goal.invariant-loop-j
+invariant-loop-j l =
+    (l.lo +ℤ negatives (row l.g l.i (these l.j-iterator.0)) ≡ lo l.g l.i)
+    × (l.hi +ℤ positives (row l.g l.i (these l.j-iterator.0)) ≡ hi l.g l.i)

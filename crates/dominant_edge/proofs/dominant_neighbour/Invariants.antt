@@ -1,13 +1,9 @@
-use Rattle.std.proofs.Common.{◌≡◌, ◌<◌, ◌^◌}
-use Rattle.dominant_edge.specs.Answer.{MatchesAt}
-use Rattle.rules.specs.DominantEdge.{dominates, first}
-use Rattle.rules.specs.Graph.{Graph}
+use Rattle.std.proofs.Common.{◌≡◌}
 use Rattle.whole.specs.Masks.{these}
+use Rattle.rules.specs.Graph.{neighbours}
+use Rattle.rules.specs.DominantEdge.{dominates, first}
 use Rattle.dominant_edge.proofs.dominant_neighbour.Given as goal
 
-abbrev pub invariant-loop-rest : goal.invariant-loop-rest
-invariant-loop-rest l =
-    (l.rest < 2 ^ 64) × ((g : Graph) → MatchesAt l.a l.m l.i l.edges g → first (dominates g l.i) (these l.m) ≡ first (dominates g l.i) (these l.rest))
-
-abbrev pub decreases-loop-rest : goal.decreases-loop-rest
-decreases-loop-rest l = l.rest
+abbrev pub invariant-loop-j : goal.invariant-loop-j
+invariant-loop-j l =
+    first (dominates l.g l.i) (these l.j-iterator.0) ≡ first (dominates l.g l.i) (neighbours l.g l.i)

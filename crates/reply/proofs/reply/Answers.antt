@@ -2,10 +2,10 @@
 use Rattle.rules.specs.Program.{reply, program}
 use Rattle.reply.proofs.reply.Goals as goal
 
-pub returns-in-Refused : goal.returns-in-Refused
-unfolding program reply
-returns-in-Refused c = rw (← (rw c.in-Refused.is at c.parse-read.ensures.reads)) c.put_refusal.ensures
-
-pub returns-in-Given : goal.returns-in-Given
+pub returns-in-Ok : goal.returns-in-Ok
 unfolding program
-returns-in-Given c = rw (← (rw c.in-Given.is at c.parse-read.ensures.reads)) c.reply_to_text.ensures
+returns-in-Ok c = rw (← c.in-Ok.ensures, ← c.objective.ensures) c.reply_to.ensures
+
+pub returns-in-Err : goal.returns-in-Err
+unfolding program reply
+returns-in-Err c = rw (← c.in-Err.ensures, ← c.from.ensures) c.put_refusal.ensures

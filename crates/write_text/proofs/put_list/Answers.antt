@@ -1,20 +1,19 @@
-use Rattle.std.proofs.Common.{arith, length-append}
-use Rattle.rules.specs.WriteText.{listed}
-use Rattle.write_text.specs.WriteLaws.{listed_left, listed_none}
-use Rattle.decimal.specs.Puts.{◌then◌, rest_after, rest_fits, rest_none}
+use Rattle.std.proofs.Common.{arith}
+use Rattle.write_text.specs.WriteLaws.{listed_by_item, listed_by_none}
+use Rattle.decimal.specs.Puts.{◌and◌, left_after, left_fits, left_none}
 use Rattle.write_text.proofs.put_list.Goals as goal
 
-pub put_number-p-requires : goal.put_number-p-requires
-put_number-p-requires c =
-    let l = c.loop-j in
-    let a = c.args in
-    rw c.wide-x.ensures (omega (arith, length-append a.label.now (listed a.xs.now), rest_fits l.invariant.1 (listed_left a.xs.now l.j (omega arith))))
+pub put_number-requires : goal.put_number-requires
+put_number-requires g c =
+    let l = c.loop-x in
+    omega (arith, left_fits l.invariant (listed_by_item g.T.Shown.text c.args.xs.now l.x-index c.x-item.result (omega arith) c.x-item.is), l.invariant.still.long, c.put.ensures.wrote.long, c.put.ensures.wrote.place)
 
-pub loop-j-preserved : goal.loop-j-preserved
-loop-j-preserved c =
-    let l = c.loop-j in
-    (omega arith, rest_after l.invariant.1 (listed_left c.args.xs.now l.j (omega arith)) (rw c.wide-x.ensures at c.put_number-p.ensures))
+pub loop-x-preserved : goal.loop-x-preserved
+loop-x-preserved g c =
+    let l = c.loop-x in
+    left_after l.invariant (listed_by_item g.T.Shown.text c.args.xs.now l.x-index c.x-item.result (omega arith) c.x-item.is) c.put_number.ensures
 
 pub returns : goal.returns
-returns c =
-    let l = c.loop-j in (c.put-p.ensures then rest_none (rw (listed_none c.args.xs.now l.j (omega arith)) at l.invariant.1))
+returns g c =
+    let l = c.loop-x in
+    (c.put.ensures and left_none (rw (listed_by_none g.T.Shown.text c.args.xs.now l.x-index (omega arith)) at l.invariant))

@@ -1,0 +1,7 @@
+use Rattle.std.proofs.Common.{eqb, rules}
+use Rattle.std.proofs.lemmas.Iterator.{YieldsList-from_slice}
+use Rattle.std.proofs.lemmas.Iterator.Search.{all_from_yields_List}
+use Rattle.broken.proofs.zero_bytes.Goals as goal
+
+pub returns : goal.returns
+returns c = all_from_yields_List (λ b. eqb b 0) _ _ _ c.all.ensures.ran (YieldsList-from_slice c.args.bytes.now cc) (λ x b q k. search rules)

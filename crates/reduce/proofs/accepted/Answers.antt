@@ -1,0 +1,38 @@
+-- `reduce::accepted` meets its contract: the run that it made is the objective's, and what is written and reported is its end. Assumes nothing.
+use Rattle.std.proofs.Common.{rules, subst, is_ok, ◌<◌, ◌^◌}
+use Rattle.whole.specs.Masks.{these}
+use Rattle.rules.specs.Given.{of_lists}
+use Rattle.rules.specs.Run as rule
+use Rattle.rules.specs.declared.Options.{Options}
+use Rattle.graph.specs.MaskLaws.{ones_these}
+use Rattle.run.specs.Course.{Ends}
+use Rattle.reduce.specs.GivesLaws.{ended_at, end_steps_lem, end_blocks, end_units, run_done}
+use Rattle.reduce.proofs.accepted.Goals as goal
+use Rattle.reduce.proofs.accepted.Goals.{After-run-reached}
+
+-- where the run ended
+ends : (c : After-run-reached) → Ends (rule.ended (of_lists c.args.o)) (is_ok c.run-reached.result.1) c.run-reached.new.g c.run-reached.result.0
+ends c =
+    let o = of_lists c.args.o in
+    let r = c.run-reached in
+    let asks : Options → Type 0 = λ x. Ends (rule.run o.budget x (rule.begin x c.begin-g.result)) (is_ok r.result.1) r.new.g r.result.0 in
+    ended_at o c.begin-g.result r.new.g (is_ok r.result.1) r.result.0 c.begin-g.ensures.0 (subst asks c.from.ensures r.ensures)
+
+pub report-requires : goal.report-requires
+report-requires c =
+    let o = of_lists c.args.o in
+    let r = c.run-reached in
+    let e = ends (goal.at.report-requires c).After-run-reached in (
+      end_steps_lem o c.requires.fit (is_ok r.result.1) r.new.g r.result.0 e,
+      end_blocks o c.requires.fit (is_ok r.result.1) r.new.g r.result.0 e,
+      end_units o c.requires.fit (is_ok r.result.1) r.new.g r.result.0 e,
+    )
+
+pub returns : goal.returns
+returns c =
+    let r = c.run-reached in
+    let rest = c.still_there-rest in
+    let small : rest.result < 2 ^ 64 = search rules in
+    run_done (of_lists c.args.o) c.requires.fit (is_ok r.result.1) r.new.g r.result.0 (ends (goal.at.returns c).After-run-reached) (these rest.result) rest.ensures c.report.result c.write_linear.new.linear c.write_edges.new.edges
+    (rw (← ones_these rest.result small, ← c.is_ok.ensures.value) c.report.ensures)
+    c.write_linear.ensures c.write_edges.ensures
