@@ -6,7 +6,7 @@ ghost use Rattle.std.specs.Int.{w64};
 ghost use Rattle.std.proofs.Common.{SFits};
 ghost use Rattle.whole.specs.Words.{tab};
 ghost use Rattle.whole.specs.Masks.{these};
-ghost use Rattle.rules.specs.Graph.{lin, edge, active, neighbours, degree, add_constant, add_linear, add_edge, add_term, add_terms, drop_to};
+ghost use Rattle.rules.specs.Graph.{lin, edge, active, bare, neighbours, degree, add_constant, add_linear, add_edge, add_term, add_terms, drop_to};
 ghost use Rattle.rules.specs.Fixing.{fix, fix_all, start};
 ghost use Rattle.rules.specs.Given.{of_lists};
 ghost use Rattle.rules.specs.Objective.{weight_of};
@@ -253,26 +253,32 @@ impl Graph {
         }
     }
 
-    // The graph of an objective that is not refused, fixed. It does not look at the switches and the budget.
-    pub fn begin(o: Objective) -> Graph
+    // The decisions of an objective, with no term yet.
+    pub fn bare(o: Objective) -> Graph
         requires { Fit (of_lists o) }
-        ensures { (result ≡ start (of_lists o.entry)) × (mass result ≤ 2199023255552) }
+        ensures { result ≡ bare (of_lists o.entry) }
     {
         let n = o.n as usize;
         let mut linear = [0; 64];
         linear[..n].copy_from_slice(o.weights);
         let mut states = [0; 64];
         states[..n].fill(2);
-        let mut g = Graph {
+        Graph {
             n,
             constant: 0,
             linear,
             edges: [0; 4096],
             masks: [0; 64],
             states,
-        };
-        g.add_terms(o);
-        g.fix_all(o.fixings);
-        g
+        }
+    }
+
+    // The graph of an objective that is not refused, fixed, in place: it is large. It does not look at the switches and the budget.
+    pub fn begin(&mut self, o: Objective)
+        requires { Fit (of_lists o) × (self.old ≡ bare (of_lists o)) }
+        ensures { (self.new ≡ start (of_lists o.entry)) × (mass self.new ≤ 2199023255552) }
+    {
+        self.add_terms(o);
+        self.fix_all(o.fixings);
     }
 }

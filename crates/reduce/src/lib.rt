@@ -66,7 +66,8 @@ pub fn accepted(o: Objective, linear: &mut [i64], edges: &mut [i64]) -> Reductio
     requires { Accepted (of_lists o) (length linear.old) (length edges.old) }
     ensures { Done (of_lists o.entry) result linear.new edges.new }
 {
-    let mut g = Graph::begin(o);
+    let mut g = Graph::bare(o);
+    g.begin(o);
     let (reached, ended) = run::run(&mut g, Options::from(o.switches), o.budget);
     let rest = outputs::still_there(&g);
     outputs::write_linear(linear, &g, rest);

@@ -15,8 +15,8 @@ ends : (c : After-run-reached) → Ends (rule.ended (of_lists c.args.o)) (is_ok 
 ends c =
     let o = of_lists c.args.o in
     let r = c.run-reached in
-    let asks : Options → Type 0 = λ x. Ends (rule.run o.budget x (rule.begin x c.begin-g.result)) (is_ok r.result.1) r.new.g r.result.0 in
-    ended_at o c.begin-g.result r.new.g (is_ok r.result.1) r.result.0 c.begin-g.ensures.0 (subst asks c.from.ensures r.ensures)
+    let asks : Options → Type 0 = λ x. Ends (rule.run o.budget x (rule.begin x c.begin.new.self)) (is_ok r.result.1) r.new.g r.result.0 in
+    ended_at o c.begin.new.self r.new.g (is_ok r.result.1) r.result.0 c.begin.ensures.0 (subst asks c.from.ensures r.ensures)
 
 pub report-requires : goal.report-requires
 report-requires c =
