@@ -102,6 +102,19 @@ impl Graph {
         &self.states
     }
 
+    pub fn weights(&self) -> &[i64; 64]
+        ensures { result.now ≡ self.now.linear }
+    {
+        &self.linear
+    }
+
+    // All of them, i's with j at 64 i + j.
+    pub fn edges(&self) -> &[i64; 4096]
+        ensures { result.now ≡ self.now.edges }
+    {
+        &self.edges
+    }
+
     // Its neighbours, a bit for each.
     pub fn mask(&self, i: usize) -> u64
         requires { i < 64 }
