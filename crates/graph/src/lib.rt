@@ -18,7 +18,9 @@ ghost use Rattle.graph.specs.Whole.{Whole};
 
 mod shown;
 
+// For edges and masks that stand in no graph.
 use rules::Objective;
+pub use shown::{add_edge, marked, wipe};
 use std::marker::Model;
 use whole::Members;
 
@@ -194,7 +196,7 @@ impl Graph {
         requires { (k < self.old.n) × (l < self.old.n) × SFits w64 (edge self.old k l +ℤ v) }
         ensures { self.new ≡ add_edge k l v self.old }
     {
-        shown::gain(&mut self.edges, &mut self.masks, k, l, v);
+        shown::add_edge(&mut self.edges, &mut self.masks, k, l, v);
     }
 
     // i leaves with a state, and with its weight and its edges.

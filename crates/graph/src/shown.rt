@@ -22,7 +22,7 @@ pub fn marked(m: u64, j: usize, w: i64) -> u64
 
 // Kept: edges and masks apart here and in `wipe`, since between the two writes the graph's invariant does not hold.
 // An edge gains v, and the masks of the two show whether it is one.
-pub fn gain(edges: &mut [i64; 4096], masks: &mut [u64; 64], k: usize, l: usize, v: i64)
+pub fn add_edge(edges: &mut [i64; 4096], masks: &mut [u64; 64], k: usize, l: usize, v: i64)
     requires { (k < 64) × (l < 64) × SFits w64 (get_or edges.old (64 * k + l) (pos 0) +ℤ v) × SFits w64 (get_or edges.old (64 * l + k) (pos 0) +ℤ v) }
     ensures { (edges.new ≡ set (set edges.old (64 * k + l) (get_or edges.old (64 * k + l) (pos 0) +ℤ v)) (64 * l + k) (get_or edges.old (64 * l + k) (pos 0) +ℤ v))
         × ((n : ℕ) → k < n → l < n → Shows n edges.old masks.old → Shows n edges.new masks.new) }

@@ -13,9 +13,9 @@ module _ (c : After-self) where
   l_in : c.args.l < c.self.inside.n
   l_in = subst (λ (x : rule.Graph). c.args.l < x.n) (sym c.self.view_is) c.requires.1
 
-pub gain-requires : goal.gain-requires
-gain-requires c =
-    let s = (goal.at.gain-requires c).After-self in
+pub add_edge-requires : goal.add_edge-requires
+add_edge-requires c =
+    let s = (goal.at.add_edge-requires c).After-self in
     let g = c.self.inside in
     let k = c.args.k in
     let l = c.args.l in
@@ -27,10 +27,10 @@ gain-requires c =
 pub invariant_of-self : goal.invariant_of-self
 invariant_of-self c =
     let s = (goal.at.invariant_of-self c).After-self in
-    (c.self.invariant.0, c.gain.ensures.1 c.self.inside.n (k_in s) (l_in s) c.self.invariant.1)
+    (c.self.invariant.0, c.add_edge.ensures.1 c.self.inside.n (k_in s) (l_in s) c.self.invariant.1)
 
 pub returns : goal.returns
 unfolding rule.add_edge
 returns c =
     let g = c.self.inside in
-    ap (λ (e : List ℤ). rule.graph g.n g.constant g.linear e g.states) (c.gain.ensures.0 ∙ rw (rd c.ranges.v)) ∙ ap (rule.add_edge c.args.k c.args.l c.args.v) c.self.view_is
+    ap (λ (e : List ℤ). rule.graph g.n g.constant g.linear e g.states) (c.add_edge.ensures.0 ∙ rw (rd c.ranges.v)) ∙ ap (rule.add_edge c.args.k c.args.l c.args.v) c.self.view_is

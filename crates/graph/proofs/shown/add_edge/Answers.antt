@@ -3,7 +3,7 @@ use Rattle.std.proofs.Common.{SFits, to_z, of_z, rules, arith, ◌≡◌, ◌+�
 use Rattle.std.proofs.Math.Path.{ap₂}
 use Rattle.whole.specs.Ints.{rd}
 use Rattle.graph.specs.ShowsLaws.{gained}
-use Rattle.graph.proofs.shown.gain.Goals as goal
+use Rattle.graph.proofs.shown.add_edge.Goals as goal
 
 pub returns : goal.returns
 returns c =
