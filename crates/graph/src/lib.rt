@@ -1,7 +1,7 @@
 // The working graph: the atomic updates, building it from the lists, fixing.
 #![tactic(auto)]
 
-ghost use Rattle.std.specs.Prelude.{◌≡◌, ◌+◌, ◌*◌, ◌<◌, ◌≤◌, length, get_or, nat_abs, ◌+ℤ◌};
+ghost use Rattle.std.specs.Prelude.{◌≡◌, ℕ, ◌+◌, ◌*◌, ◌<◌, ◌≤◌, length, get_or, nat_abs, ◌+ℤ◌};
 ghost use Rattle.std.specs.Int.{w64};
 ghost use Rattle.std.proofs.Common.{SFits};
 ghost use Rattle.whole.specs.Words.{tab};
@@ -18,7 +18,6 @@ ghost use Rattle.graph.specs.Whole.{Whole};
 
 mod shown;
 
-// For edges and masks that stand in no graph.
 use rules::Objective;
 pub use shown::{add_edge, marked, wipe};
 use std::marker::Model;
@@ -248,10 +247,12 @@ impl Graph {
 // ---- building
 impl Graph {
     // A term of a decision with itself is linear.
-    fn add_term(&mut self, i: usize, j: usize, w: i64)
-        requires { (i < self.old.n) × (j < self.old.n) × (self.old.n ≤ 64) × (mass self.old + 2 * nat_abs w ≤ 2199023255552) }
-        ensures { (self.new ≡ add_term i j w self.old) × (mass self.new ≤ mass self.old + 2 * nat_abs w) }
+    pub fn add_term(&mut self, i: usize, j: usize, w: i64)
+        requires { (i < self.old.n) × (j < self.old.n) × (weight_of self.old.linear + weight_of self.old.edges + 2 * nat_abs w ≤ 2199023255552) }
+        ensures { (self.new ≡ add_term i j w self.old)
+            × (weight_of self.new.linear + weight_of self.new.edges ≤ weight_of self.old.linear + weight_of self.old.edges + 2 * nat_abs w) }
     {
+        self.known();
         if i == j {
             self.add_linear(i, w);
         } else {
@@ -259,9 +260,13 @@ impl Graph {
         }
     }
 
-    fn add_terms(&mut self, o: Objective)
-        requires { Fit (of_lists o) × (self.old.n ≡ o.n) × (mass self.old + 2 * weight_of o.term_weights.now ≤ 2199023255552) }
-        ensures { (self.new ≡ add_terms o.entry.firsts.now o.entry.seconds.now o.entry.term_weights.now self.old) × (mass self.new ≤ 2199023255552) }
+    // As far as the three lists go.
+    pub fn add_terms(&mut self, o: Objective)
+        requires { ((k : ℕ) → k < length o.firsts.now → get_or o.firsts.now k 0 < self.old.n)
+            × ((k : ℕ) → k < length o.seconds.now → get_or o.seconds.now k 0 < self.old.n)
+            × (weight_of self.old.linear + weight_of self.old.edges + 2 * weight_of o.term_weights.now ≤ 2199023255552) }
+        ensures { (self.new ≡ add_terms o.entry.firsts.now o.entry.seconds.now o.entry.term_weights.now self.old)
+            × (weight_of self.new.linear + weight_of self.new.edges ≤ 2199023255552) }
     {
         for ((i, j), w) in o.firsts.iter().zip(o.seconds).zip(o.term_weights) {
             self.add_term(*i as usize, *j as usize, *w);

@@ -8,17 +8,16 @@ use Rattle.graph.proofs.Graph.add_terms.Goals.{In-Some}
 
 pub loop-i-init : goal.loop-i-init
 loop-i-init c =
-    let f = c.requires.0 in
     let both = c.zip-i-items.ensures in
     let pair = c.zip.ensures in
     rw c.into_iter-i-iterator.ensures.into_iter_gives
-    (adding_of _ _ _ (record { goes = refl; many = c.requires.1; light = c.requires.2; firsts = f.first_below; seconds = f.second_below })
+    (adding_of _ _ _ (record { goes = refl; many = refl; light = c.requires.2; firsts = c.requires.0; seconds = c.requires.1 })
     (rw (both.first, pair.first, c.iter.ensures.rest))
     (rw (both.first, pair.second.0))
     (sym both.second.0))
 
 -- the turn's term, with those after it
-turn : (c : In-Some) → Adding c.args.o.n (add_terms c.args.o.firsts.now c.args.o.seconds.now c.args.o.term_weights.now c.args.self.now) c.loop-i.self
+turn : (c : In-Some) → Adding c.args.self.now.n (add_terms c.args.o.firsts.now c.args.o.seconds.now c.args.o.term_weights.now c.args.self.now) c.loop-i.self
     (c.in-Some.i.now ∷ c.next.new.self.a.a.rest.now) (c.in-Some.j.now ∷ c.next.new.self.a.b.rest.now) (c.in-Some.w.now ∷ c.next.new.self.b.rest.now)
 turn c = let s = c.in-Some.ensures.steps in adding_of _ _ _ c.loop-i.invariant s.0.0 s.0.1 s.1
 
@@ -29,7 +28,7 @@ pub add_term-requires : goal.add_term-requires
 add_term-requires c =
     let s = (goal.at.add_term-requires c).In-Some in
     let t = term_asked _ _ _ _ _ _ _ _ _ (turn s) in
-    rw (weight s) (t.0, t.1, omega (arith, c.loop-i.invariant.many, c.requires.0.small), t.2)
+    rw (weight s) t
 
 pub loop-i-preserved : goal.loop-i-preserved
 loop-i-preserved c =
