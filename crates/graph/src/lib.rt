@@ -9,7 +9,7 @@ ghost use Rattle.whole.specs.Masks.{these};
 ghost use Rattle.rules.specs.Graph.{lin, edge, active, bare, neighbours, degree, add_constant, add_linear, add_edge, add_term, add_terms, drop_to};
 ghost use Rattle.rules.specs.Fixing.{fix, fix_all, start};
 ghost use Rattle.rules.specs.Given.{of_lists};
-ghost use Rattle.rules.specs.Objective.{weight_of};
+ghost use Rattle.rules.specs.Objective.{objective, weight_of};
 ghost use Rattle.accepted_laws.specs.Accept.{Fit};
 ghost use Rattle.accepted_laws.specs.Mass.{mass};
 ghost use Rattle.graph.specs.Near.{near_at};
@@ -296,7 +296,8 @@ impl Graph {
     // The graph of an objective that is not refused, fixed, in place: it is large. It does not look at the switches and the budget.
     pub fn begin(&mut self, o: Objective)
         requires { Fit (of_lists o) × (self.old ≡ bare (of_lists o)) }
-        ensures { (self.new ≡ start (of_lists o.entry)) × (mass self.new ≤ 2199023255552) }
+        ensures { (self.new ≡ start (of_lists o.entry)) × (mass self.new ≤ 2199023255552)
+            × ((switches budget : ℕ) → self.new ≡ start (objective o.entry.n o.entry.weights.now o.entry.firsts.now o.entry.seconds.now o.entry.term_weights.now o.entry.fixings.now switches budget)) }
     {
         self.add_terms(o);
         self.fix_all(o.fixings);

@@ -16,8 +16,9 @@ fix_all-requires c =
     (omega (arith, f.fixings, f.small), termed_mass o c.add_terms.new.self (c.add_terms.ensures.0 ∙ ap (add_terms o.firsts o.seconds o.term_weights) c.requires.1) c.add_terms.ensures.1)
 
 pub returns : goal.returns
-unfolding start graph_of
+unfolding start graph_of bare
 returns c =
     let o = of_lists c.args.o in
     let r = c.fix_all.ensures in
-    (r.0 ∙ ap (fix_all 0 o.fixings) (c.add_terms.ensures.0 ∙ ap (add_terms o.firsts o.seconds o.term_weights) c.requires.1), r.1)
+    let begun = r.0 ∙ ap (fix_all 0 o.fixings) (c.add_terms.ensures.0 ∙ ap (add_terms o.firsts o.seconds o.term_weights) c.requires.1) in
+    (begun, r.1, λ switches budget. begun)
