@@ -191,7 +191,7 @@ module _ (t : ℕ → ℤ) (g : Graph) where
   absorb_two (j ∷ k ∷ ns) l = refl
 
 -- what each of its updates asks: the end is a decision, and its sum fits
-module _ (t : List ℤ) (s : Small (2 ^ 50) t) (g : Graph) (small : g.n ≤ 64) (w : Within g) (ns : List ℕ) (apart : Apart g.n ns) where
+module _ (t : List ℤ) (s : Small (2 ^ 50) t) (g : Graph) (w : Within g) (ns : List ℕ) (apart : Apart 64 ns) where
   abbrev e : ℕ → ℤ
   e m = get_or t m (pos 0)
 
@@ -203,22 +203,22 @@ module _ (t : List ℤ) (s : Small (2 ^ 50) t) (g : Graph) (small : g.n ≤ 64) 
 
   pub first_asks : 1 ≤ length ns → (j < 64) × SFits w64 (lin (add_constant (e 0) g) j +ℤ (e 1 -ℤ e 0))
   unfolding add_constant
-  first_asks h = (omega (arith, small, apart_at g.n ns 0 apart (omega arith)), gain_fits g.linear g.linear j (e 1 -ℤ e 0) (w.linear j) refl (gains t s).b1 (omega arith))
+  first_asks h = (apart_at 64 ns 0 apart (omega arith), gain_fits g.linear g.linear j (e 1 -ℤ e 0) (w.linear j) refl (gains t s).b1 (omega arith))
 
   pub second_asks : 2 ≤ length ns → (k < 64) × SFits w64 (lin (add_linear j (e 1 -ℤ e 0) (add_constant (e 0) g)) k +ℤ (e 2 -ℤ e 0))
   unfolding add_constant add_linear
   second_asks h = (
-    omega (arith, small, apart_at g.n ns 1 apart (omega arith)),
+    apart_at 64 ns 1 apart (omega arith),
     gain_fits g.linear _ k (e 2 -ℤ e 0) (w.linear k) (get_or-set_other g.linear j k _ (pos 0) (second_other ns apart h)) (gains t s).b2 (omega arith),
   )
 
-  pub pair_asks : 2 ≤ length ns
+  pub pair_asks : 2 ≤ length ns → Apart g.n ns
       → let r : Graph = add_linear k (e 2 -ℤ e 0) (add_linear j (e 1 -ℤ e 0) (add_constant (e 0) g)) in
       (j < r.n) × (k < r.n) × SFits w64 (edge r j k +ℤ (e 3 -ℤ e 1 -ℤ e 2 +ℤ e 0))
   unfolding add_constant add_linear
-  pair_asks h = (
-    apart_at g.n ns 0 apart (omega arith),
-    apart_at g.n ns 1 apart (omega arith),
+  pair_asks h inside = (
+    apart_at g.n ns 0 inside (omega arith),
+    apart_at g.n ns 1 inside (omega arith),
     gain_fits g.edges g.edges (64 * j + k) (e 3 -ℤ e 1 -ℤ e 2 +ℤ e 0) (w.edges (64 * j + k)) refl (gains t s).b3 (omega arith),
   )
 

@@ -113,10 +113,9 @@ pub fn step_of(i: usize, near: Near, deltas: [i64; 8]) -> Step
 
 // The constant, at most two neighbours and their edge gain what the table t says.
 pub fn absorb(g: &mut Graph, t: [i64; 8], ends: &[usize])
-    requires { Apart g.old.n ends.now × (length ends.now ≤ 2) × Within g.old × Small (2 ^ 50) t }
+    requires { Apart 64 ends.now × (length ends.now ≤ 2) × Within g.old × Small (2 ^ 50) t × (length ends.now ≡ 2 → Apart g.old.n ends.now) }
     ensures { g.new ≡ absorbed (λ m. get_or t m (pos 0)) ends.now g.old }
 {
-    g.known();
     let [t0, t1, t2, t3, ..] = t;
     g.add_constant(t0);
     match *ends {
@@ -135,6 +134,7 @@ pub fn eliminate(g: &mut Graph, near: Near, i: usize) -> Step
     requires { (i < 64) × Within g.old × (near ≡ near_at g.old i) × (near.count ≤ 2) }
     ensures { (g.new ≡ eliminated i g.old) × (result ≡ hold (step_of g.old i)) }
 {
+    g.known();
     let Table { deltas, tees } = table_of(g.linear(i), near);
     g.drop_to(3, i);
     let ends = [usize::from(near.list[0]), usize::from(near.list[1])];

@@ -1,11 +1,12 @@
 use Rattle.std.proofs.Common.{◌≡◌, ◌++◌, List, ℤ, pos, get_or, map, sym, ap, ◌∙◌, subst, arith}
+use Rattle.whole.specs.Members.{apart_wider}
 use Rattle.rules.specs.Eliminate as rule
 use Rattle.rules.specs.Record.{hold}
 use Rattle.rules.specs.SmallBlock.{boundary}
 use Rattle.rules.specs.Size.{Within}
 use Rattle.rules.specs.Graph.{Graph}
 use Rattle.accepted_laws.specs.Small.{Small}
-use Rattle.block_elimination.specs.BlockLaws.{members_listed, near_narrow, near_listed, near_apart, within_drop_all, table_small, steps_are, block_left}
+use Rattle.block_elimination.specs.BlockLaws.{members_listed, near_narrow, near_listed, near_apart, within_drop_all, drop_all_n, table_small, steps_are, block_left}
 use Rattle.block_elimination.proofs.eliminate_block.Goals as goal
 
 pub boundary_of-around-requires : goal.boundary_of-around-requires
@@ -39,11 +40,14 @@ absorb-requires c =
     let few = c.known.ensures.small in
     let b = c.args.members.now in
     let near = c.as_slice-outside.result.now in
-    let is : near ≡ boundary g b = c.as_slice-outside.ensures ∙ c.boundary_of-around.ensures in (
-      near_apart g few b c.requires.1 near is c.drop_all.new.g c.drop_all.ensures,
+    let is : near ≡ boundary g b = c.as_slice-outside.ensures ∙ c.boundary_of-around.ensures in
+    let h = c.drop_all.new.g in
+    let inside = near_apart g few b c.requires.1 near is h c.drop_all.ensures in (
+      apart_wider (omega (arith, few, ap (λ (x : Graph). x.n) c.drop_all.ensures, drop_all_n b g)) inside,
       near_narrow g few b c.requires.1 near is,
       subst (λ (x : Graph). Within x) (sym c.drop_all.ensures) (within_drop_all b g c.requires.0),
       subst (λ (t : List ℤ). Small 1125899906842624 t) (sym c.table.ensures) (table_small _ _ _ c.minima-won.result c.minima-won.ensures),
+      λ two. inside,
     )
 
 pub returns : goal.returns

@@ -8,14 +8,14 @@ add_linear-requires c =
     let a = c.args in
     let s = c.requires in
     let m = gains a.t s.3 in
-    rw (c.add_constant.ensures, m.r1, m.r0, rd m.d1) (first_asks a.t s.3 a.g.now c.known.ensures.small s.2 a.ends.now s.0 c.in-len1.len_at_least)
+    rw (c.add_constant.ensures, m.r1, m.r0, rd m.d1) (first_asks a.t s.3 a.g.now s.2 a.ends.now s.0 c.in-len1.len_at_least)
 
 pub add_linear-requires-in-len2-up : goal.add_linear-requires-in-len2-up
 add_linear-requires-in-len2-up c =
     let a = c.args in
     let s = c.requires in
     let m = gains a.t s.3 in
-    rw (c.add_constant.ensures, m.r1, m.r0, rd m.d1) (first_asks a.t s.3 a.g.now c.known.ensures.small s.2 a.ends.now s.0 (omega (arith, c.in-len2-up.len_at_least)))
+    rw (c.add_constant.ensures, m.r1, m.r0, rd m.d1) (first_asks a.t s.3 a.g.now s.2 a.ends.now s.0 (omega (arith, c.in-len2-up.len_at_least)))
 
 pub overflow_sub-t2 : goal.overflow_sub-t2
 overflow_sub-t2 c = let m = gains c.args.t c.requires.3 in rw (m.r2, m.r0) m.d2
@@ -25,7 +25,7 @@ add_linear-requires-in-len2-up-2 c =
     let a = c.args in
     let s = c.requires in
     let m = gains a.t s.3 in
-    rw (c.add_linear-in-len2-up.ensures, c.add_constant.ensures, m.r2, m.r1, m.r0, rd m.d2, rd m.d1) (second_asks a.t s.3 a.g.now c.known.ensures.small s.2 a.ends.now s.0 c.in-len2-up.len_at_least)
+    rw (c.add_linear-in-len2-up.ensures, c.add_constant.ensures, m.r2, m.r1, m.r0, rd m.d2, rd m.d1) (second_asks a.t s.3 a.g.now s.2 a.ends.now s.0 c.in-len2-up.len_at_least)
 
 pub overflow_sub-t3 : goal.overflow_sub-t3
 overflow_sub-t3 c = let m = gains c.args.t c.requires.3 in rw (m.r3, m.r1) m.e1
@@ -42,7 +42,7 @@ add_edge-requires c =
     let s = c.requires in
     let m = gains a.t s.3 in
     rw (c.add_linear-in-len2-up-2.ensures, c.add_linear-in-len2-up.ensures, c.add_constant.ensures, m.r3, m.r2, m.r1, m.r0, rd m.e1, rd m.e2, rd m.e3, rd m.d2, rd m.d1)
-    (pair_asks a.t s.3 a.g.now c.known.ensures.small s.2 a.ends.now s.0 c.in-len2-up.len_at_least)
+    (pair_asks a.t s.3 a.g.now s.2 a.ends.now s.0 c.in-len2-up.len_at_least (s.4 (omega (arith, s.1, c.in-len2-up.len_at_least))))
 
 pub returns-in-empty : goal.returns-in-empty
 returns-in-empty c =

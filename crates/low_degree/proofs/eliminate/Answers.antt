@@ -1,5 +1,6 @@
-use Rattle.std.proofs.Common.{◌≤◌, ◌^◌, sym, ap, ◌∙◌, arith}
+use Rattle.std.proofs.Common.{◌≤◌, ◌^◌, refl, sym, ap, ◌∙◌, arith}
 use Rattle.std.proofs.Math.Path.{subst}
+use Rattle.whole.specs.Members.{apart_wider}
 use Rattle.accepted_laws.specs.Small.{Small, small_more}
 use Rattle.size_laws.specs.SumSizes.{tees_three}
 use Rattle.graph.specs.Small.{dropped_within}
@@ -24,10 +25,11 @@ absorb-requires c =
     let table = table_gives g a.i a.near s.2 few s.1 c.table_of.result (rw c.linear.ensures at c.table_of.ensures) in
     let d = c.drop_to.new.self in
     rw (c.from.ensures, c.from-2.ensures) (
-      pair_apart g a.i a.near s.2 s.3 d.n (dropped_n 3 a.i g d c.drop_to.ensures),
+      apart_wider c.known.ensures.small (pair_apart g a.i a.near s.2 s.3 g.n refl),
       pair_short g a.i a.near s.2 s.3,
       dropped_within 3 a.i g d c.drop_to.ensures s.1,
       subst (Small (2 ^ 50)) (sym table.1) (small_more (2 ^ 50) (tees_three g s.1 a.i (degree_few g a.i a.near s.2 few)) (omega arith)),
+      λ two. pair_apart g a.i a.near s.2 s.3 d.n (dropped_n 3 a.i g d c.drop_to.ensures),
     )
 
 pub returns : goal.returns
