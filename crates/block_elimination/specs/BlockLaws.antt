@@ -1,7 +1,7 @@
 -- Laws of a block's minima, its steps and its drops.
 -- Assumes nothing.
 use Rattle.std.specs.Prelude.{◌≡◌, length, map, get_or, set, drop, replicate, ℤ, pos}
-use Rattle.std.proofs.Math.Path.{refl, sym, ap, ap₂}
+use Rattle.std.proofs.Math.Path.{refl, sym, ap, ap₂, fun_ext}
 use Rattle.std.proofs.Math.Decide.{ℕ_discrete, dec_lt}
 use Rattle.std.proofs.Common.{◌∙◌, subst, arith, add-one, add-zero, zero-add, drop-cons, get_or-set_same, get_or-set_other, pow_mono, length-drop}
 use Rattle.std.proofs.lemmas.List.{map-append, nil_from_length}
@@ -25,7 +25,7 @@ use Rattle.cost_laws.specs.Found.{SmallBlock}
 use Rattle.accepted_laws.specs.Small.{Small}
 use Rattle.graph.specs.Small.{dropped_within}
 use Rattle.low_degree.specs.AbsorbLaws.{absorb_same}
-use Rattle.block_minima.specs.Weights.{Listed, Minimum}
+use Rattle.block_minima.specs.Weights.{weights, weights_inner, Listed, Minimum}
 use Rattle.block_minima.specs.declared.Best.{Best}
 use Rattle.block_elimination.specs.Block.{none, mask_at, cost_at, Lowest, member_step}
 
@@ -40,6 +40,14 @@ module _ (c : ℕ → ℕ → ℤ) (count : ℕ) where
       go : (k : ℕ) → k < f + 1 → Dec (k ≡ f) → Minimum (c k) count (mask_at (set won f b) k) (cost_at (set won f b) k)
       go k h (yes e) = rw e (subst (λ (x : Best). Minimum (c f) count x.mask x.cost) (sym (get_or-set_same won f b none l)) m)
       go k h (no d) = subst (λ (x : Best). Minimum (c k) count x.mask x.cost) (sym (get_or-set_other won f k b none d)) (w.each k (omega arith))
+
+-- ---- a graph's weights alone are within the size rule where it is, and the minima over them are its own
+module _ (g : Graph) (l e : List ℤ) (p : l ≡ g.linear) (q : e ≡ g.edges) where
+  pub weights_within : Within g → Within (weights l e)
+  weights_within w = rw (p, q) (record { constant = omega arith; linear = w.linear; edges = w.edges })
+
+  pub lowest_of_weights : (near b : List ℕ) (count size : ℕ) (won : List Best) → Lowest (λ f. inner (weights l e) near f b) count size won → Lowest (λ f. inner g near f b) count size won
+  lowest_of_weights near b count size won w = subst (λ (c : ℕ → ℕ → ℤ). Lowest c count size won) (fun_ext (λ f. fun_ext (λ m. rw (p, q) (sym (weights_inner g near f b m))))) w
 
 -- ---- the table of what they cost
 abbrev pub table_of : List Best → List ℤ

@@ -18,13 +18,18 @@ use state::steps::Steps;
 // ---- the minima
 
 // For each boundary filling the cheapest interior mask, and what it costs; then zeros.
-pub fn minima(g: &Graph, members: &[usize], outside: &[usize]) -> [Best; 4]
-    requires { Within (weights g.now) × Listed members.now × Listed outside.now × (length outside.now ≤ 2) }
-    ensures { Lowest (λ f. inner g.now outside.now f members.now) (length members.now) (2 ^ length outside.now) result }
+pub fn minima(
+    linear: &[i64; 64],
+    edges: &[i64; 4096],
+    members: &[usize],
+    outside: &[usize],
+) -> [Best; 4]
+    requires { Within (weights linear.now edges.now) × Listed members.now × Listed outside.now × (length outside.now ≤ 2) }
+    ensures { Lowest (λ f. inner (weights linear.now edges.now) outside.now f members.now) (length members.now) (2 ^ length outside.now) result }
 {
     let mut won = [Best::default(); 4];
     for f in 0..1 << outside.len() {
-        won[f] = block_minima::cheapest_mask(g, members, outside, f);
+        won[f] = block_minima::cheapest_mask(linear, edges, members, outside, f);
     }
     won
 }
@@ -99,7 +104,7 @@ pub fn eliminate_block(g: &mut Graph, members: &[usize], steps: &mut Steps)
     g.known();
     let around = small_block::boundary_of(g, members);
     let outside = around.as_slice();
-    let won = minima(g, members, outside);
+    let won = minima(g.weights(), g.edges(), members, outside);
     block_steps(members, outside, won, steps);
     drop_all(g, members);
     low_degree::absorb(g, table(won), outside);

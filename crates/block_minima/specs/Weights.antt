@@ -8,10 +8,10 @@ use Rattle.whole.specs.Parts.{∣◌∣}
 use Rattle.whole.specs.Words.{odd, chosen}
 
 -- a graph of which only the weights count
-abbrev pub weights : Graph → Graph
-weights g = graph g.n (pos 0) g.linear g.edges g.states
+abbrev pub weights : List ℤ → List ℤ → Graph
+weights linear edges = graph 64 (pos 0) linear edges []
 
-pub weights_inner : (g : Graph) (out : List ℕ) (f : ℕ) (b : List ℕ) (m : ℕ) → inner g out f b m ≡ inner (weights g) out f b m
+pub weights_inner : (g : Graph) (out : List ℕ) (f : ℕ) (b : List ℕ) (m : ℕ) → inner g out f b m ≡ inner (weights g.linear g.edges) out f b m
 unfolding inner
 weights_inner g out f [] m = refl
 weights_inner g out f (i ∷ is) m =

@@ -1,12 +1,11 @@
-use Rattle.std.proofs.Common.{◌≡◌, ◌++◌, List, ℤ, pos, get_or, map, sym, ap, ◌∙◌, subst, arith}
-use Rattle.whole.specs.Members.{apart_wider}
+use Rattle.std.proofs.Common.{◌≡◌, ◌++◌, List, ℤ, pos, get_or, map, sym, ap, ◌∙◌, subst}
 use Rattle.rules.specs.Eliminate as rule
 use Rattle.rules.specs.Record.{hold}
 use Rattle.rules.specs.SmallBlock.{boundary}
 use Rattle.rules.specs.Size.{Within}
 use Rattle.rules.specs.Graph.{Graph}
 use Rattle.accepted_laws.specs.Small.{Small}
-use Rattle.block_elimination.specs.BlockLaws.{members_listed, near_narrow, near_listed, near_apart, within_drop_all, drop_all_n, table_small, steps_are, block_left}
+use Rattle.block_elimination.specs.BlockLaws.{members_listed, near_narrow, near_listed, near_apart, within_drop_all, weights_within, lowest_of_weights, table_small, steps_are, block_left}
 use Rattle.block_elimination.proofs.eliminate_block.Goals as goal
 
 pub boundary_of-around-requires : goal.boundary_of-around-requires
@@ -19,8 +18,7 @@ minima-won-requires c =
     let b = c.args.members.now in
     let near = c.as_slice-outside.result.now in
     let is : near ≡ boundary g b = c.as_slice-outside.ensures ∙ c.boundary_of-around.ensures in
-    let v = c.requires.0 in
-    (record { constant = omega arith; linear = v.linear; edges = v.edges }, members_listed g few b c.requires.1, near_listed g few b c.requires.1 near is, near_narrow g few b c.requires.1 near is)
+    (weights_within g c.weights.result.now c.edges.result.now c.weights.ensures c.edges.ensures c.requires.0, members_listed g few b c.requires.1, near_listed g few b c.requires.1 near is, near_narrow g few b c.requires.1 near is)
 
 pub block_steps-requires : goal.block_steps-requires
 block_steps-requires c =
@@ -58,8 +56,9 @@ returns c =
     let near = c.as_slice-outside.result.now in
     let is : near ≡ boundary g b = c.as_slice-outside.ensures ∙ c.boundary_of-around.ensures in
     let narrow = near_narrow g few b c.requires.1 near is in
-    let won = c.minima-won in (
-      block_left g b near is narrow won.result won.ensures c.drop_all.new.g c.absorb.new.g c.drop_all.ensures
+    let won = c.minima-won in
+    let lowest = lowest_of_weights g c.weights.result.now c.edges.result.now c.weights.ensures c.edges.ensures near b _ _ won.result won.ensures in (
+      block_left g b near is narrow won.result lowest c.drop_all.new.g c.absorb.new.g c.drop_all.ensures
           (c.absorb.ensures ∙ ap (λ (t : List ℤ). rule.absorb (λ m. get_or t m (pos 0)) near c.drop_all.new.g) c.table.ensures),
-      c.block_steps.ensures ∙ ap (λ (ss : List rule.Step). c.args.steps.now ++ map hold ss) (steps_are g b near is narrow won.result won.ensures),
+      c.block_steps.ensures ∙ ap (λ (ss : List rule.Step). c.args.steps.now ++ map hold ss) (steps_are g b near is narrow won.result lowest),
     )

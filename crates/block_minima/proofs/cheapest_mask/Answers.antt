@@ -15,7 +15,7 @@ use Rattle.block_minima.proofs.cheapest_mask.Goals as goal
 use Rattle.block_minima.proofs.cheapest_mask.Goals.{then-cost-least, else-cost-least}
 
 -- the cost of a mask, that it fits, and is read as it is
-module _ (g : Graph) (v : Within (weights g)) (members out : List ℕ) (w : Listed members) (narrow : length out ≤ 2) (f m : ℕ) where
+module _ (g : Graph) (v : Within (weights g.linear g.edges)) (members out : List ℕ) (w : Listed members) (narrow : length out ≤ 2) (f m : ℕ) where
   bounded : ∣ inner g out f members m ∣ ≤ 184717953466368
   bounded = cost_size g v members w.few out narrow f m
 
@@ -27,14 +27,14 @@ unfolding cheapest
 loop-m-init c =
     let a = c.args in
     let r = c.requires in
-    record { lowest = refl; costs = read a.g.now r.0 a.members.now a.outside.now r.1 r.3 a.filling 0 c.inner_cost-least.result c.inner_cost-least.ensures }
+    record { lowest = refl; costs = read (weights a.linear.now a.edges.now) r.0 a.members.now a.outside.now r.1 r.3 a.filling 0 c.inner_cost-least.result c.inner_cost-least.ensures }
 
 pub loop-m-preserved : goal.loop-m-preserved
 loop-m-preserved c =
     let l = c.loop-m in
     let a = c.args in
     let r = c.requires in
-    let g = a.g.now in
+    let g = weights a.linear.now a.edges.now in
     let cost = inner g a.outside.now a.filling a.members.now in
     let is = read g r.0 a.members.now a.outside.now r.1 r.3 a.filling l.m c.inner_cost-cost.result c.inner_cost-cost.ensures in
     elim c.if-cost-least.branch [
@@ -57,7 +57,7 @@ returns c =
     let l = c.loop-m in
     let a = c.args in
     let r = c.requires in
-    let g = a.g.now in
+    let g = weights a.linear.now a.edges.now in
     let count : ℕ = length c.args.members.now in
     let few : count < 64 = omega (arith, c.requires.1.few) in
     let last : l.m - 1 ≡ 2 ^ count - 1 = omega (arith, single_is count few, pow_pos count) in

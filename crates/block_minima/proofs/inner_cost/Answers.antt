@@ -13,7 +13,7 @@ use Rattle.block_minima.proofs.inner_cost.Goals as goal
 use Rattle.block_minima.proofs.inner_cost.Goals.{then-rest-eq1, else-rest-eq1}
 
 -- the member's weight, its pulls and the sum so far fit
-own : (g : Graph) → Within (weights g) → (i : ℕ) → SFits w64 (lin g i)
+own : (g : Graph) → Within g → (i : ℕ) → SFits w64 (lin g i)
 own g h i = fit _ (omega (arith, h.linear i))
 
 fits : (z : ℤ) → ∣ z ∣ ≤ 17592186044416 → SFits w64 z
@@ -32,13 +32,12 @@ pub overflow_add-sum-then-rest-eq1-2 : goal.overflow_add-sum-then-rest-eq1-2
 overflow_add-sum-then-rest-eq1-2 c =
     let a = c.args in
     let l = c.loop-i in
-    let g = a.g.now in
+    let g = weights a.linear.now a.edges.now in
     let i : ℕ = c.in-Some.field-0-0.now in
     let z : ℤ = lin g i in
     let bound : ∣ z ∣ ≤ 1099511627776 = c.requires.0.linear i in
     let so_far = cost_part g c.requires.0 a.members.now c.requires.1.few a.outside.now c.requires.3 a.filling l.left.now a.mask l.rest (to_z w64 l.sum-bits) l.invariant.fewer l.invariant.summed in
     rw (
-      c.linear.ensures,
       rd (own g c.requires.0 i),
       rd (fits c.pull-out.result c.pull-out.ensures.1),
       rd (two z c.pull-out.result bound c.pull-out.ensures.1),
@@ -51,7 +50,7 @@ pub loop-i-preserved : goal.loop-i-preserved
 loop-i-preserved c =
     let a = c.args in
     let l = c.loop-i in
-    let g = a.g.now in
+    let g = weights a.linear.now a.edges.now in
     let i : ℕ = c.in-Some.field-0-0.now in
     let later : List ℕ = c.in-Some.later.now in
     let parts = c.in-Some.ensures.cases.0 in
@@ -67,7 +66,6 @@ loop-i-preserved c =
           let e : to_z w64 c.if-rest-eq1.sum-bits ≡ to_z w64 l.sum-bits +ℤ (z +ℤ o.result +ℤ p.result) =
           rw (
             w.sum-is,
-            w.linear.ensures,
             rd (own g c.requires.0 i),
             rd (fits o.result o.ensures.1),
             rd (two z o.result bound o.ensures.1),
@@ -87,4 +85,4 @@ pub returns : goal.returns
 returns c =
     let l = c.loop-i in
     let a = c.args in
-    inner_end l.left.now l.rest (to_z w64 l.sum-bits) _ a.g.now a.outside.now a.filling (nil_from_length l.left.now c.in_default.ensures.cases) l.invariant.summed
+    inner_end l.left.now l.rest (to_z w64 l.sum-bits) _ (weights a.linear.now a.edges.now) a.outside.now a.filling (nil_from_length l.left.now c.in_default.ensures.cases) l.invariant.summed
