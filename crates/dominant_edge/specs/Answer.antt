@@ -4,12 +4,16 @@ use Rattle.std.specs.Prelude.{◌≡◌, Bool, true, cond, ◌&&◌, ◌||◌, L
 use Rattle.std.specs.Int.Signed.{lt_z, le_z}
 use Rattle.whole.specs.Words.{is_zero_z, mem}
 use Rattle.whole.specs.Masks.{these}
-use Rattle.rules.specs.Graph.{Graph, edge, neighbours}
+use Rattle.rules.specs.Graph.{Graph, lin, edge, neighbours}
 use Rattle.rules.specs.DominantEdge.{Found, nothing, at, lo, hi, weak, dominant, turn, move}
 use Rattle.dominant_edge.specs.declared.Bounds.{Bounds}
 
 abbrev pub bounds_at : Graph → ℕ → Bounds
 bounds_at g i = record { lo = lo g i; hi = hi g i }
+
+-- the two bounds that an edge w is tested by, where a decision has these
+abbrev pub edge_bounds_of : Bounds → ℤ → Bounds
+edge_bounds_of b w = cond (lt_z (pos 0) w) (record { lo = b.lo +ℤ w; hi = b.hi -ℤ w }) (record { lo = b.lo -ℤ w; hi = b.hi +ℤ w })
 
 -- whether two bounds let an edge dominate, and then whether one of them is 0
 abbrev pub verdict_of : ℤ → ℤ → Option Bool
@@ -26,6 +30,18 @@ answer_of g i (at j) = Some (j, weak g i j)
 -- the dominant neighbour and its flag, or none
 unfoldable pub dominant_of : Graph → ℕ → Option (ℕ × Bool)
 dominant_of g i = answer_of g i (dominant g i)
+
+-- a decision i of weight a, whose neighbours are those of the mask m, in whatever graph has these edges
+pub record MatchesAt (a : ℤ) (m i : ℕ) (e : List ℤ) (g : Graph) : Type 0 where
+  pub weight : lin g i ≡ a
+  pub around : these m ≡ neighbours g i
+  pub edges : g.edges ≡ e
+
+abbrev pub BoundsAre : Bounds → ℤ → ℕ → ℕ → List ℤ → Type 0
+BoundsAre r a m i e = (g : Graph) → MatchesAt a m i e g → r ≡ bounds_at g i
+
+abbrev pub Finds : Option (ℕ × Bool) → ℤ → ℕ → ℕ → List ℤ → Type 0
+Finds r a m i e = (g : Graph) → MatchesAt a m i e g → r ≡ dominant_of g i
 
 -- what was near a decision i that has gone: those of the mask, with their edges in its row
 pub record WasNear (row : List ℤ) (m : ℕ) (old : Graph) (i : ℕ) : Type 0 where

@@ -1,17 +1,18 @@
 // Contracting a decision with a dominant neighbour.
 #![tactic(auto)]
 
-ghost use Rattle.std.specs.Prelude.{◌≡◌, true, [], ◌∷◌, ◌≢◌, ℕ, ◌<◌, ◌≤◌, ◌^◌, cond, get_or, pos};
+ghost use Rattle.std.specs.Prelude.{◌≡◌, true, ◌&&◌, ◌||◌, [], ◌∷◌, ◌≢◌, ℕ, ◌<◌, ◌≤◌, ◌^◌, get_or, pos};
+ghost use Rattle.std.specs.Int.Signed.{le_z};
 ghost use Rattle.whole.specs.Masks.{these};
 ghost use Rattle.whole.specs.Parts.{∣◌∣};
-ghost use Rattle.whole.specs.Words.{mem};
+ghost use Rattle.whole.specs.Words.{is_zero_z, mem};
 ghost use Rattle.accepted_laws.specs.Small.{Small};
 ghost use Rattle.rules.specs.Graph.{lin};
 ghost use Rattle.rules.specs.Eliminate.{step as played_step};
 ghost use Rattle.rules.specs.DominantEdge.{contract as contracted, contract_step};
 ghost use Rattle.rules.specs.Record.{hold};
 ghost use Rattle.rules.specs.Size.{Within};
-ghost use Rattle.dominant_edge.specs.Answer.{bounds_at, test_of, dominant_of, Gives};
+ghost use Rattle.dominant_edge.specs.Answer.{BoundsAre, edge_bounds_of, verdict_of, test_of, Finds, Gives};
 
 use graph::Graph;
 use rules::Step;
@@ -26,17 +27,16 @@ pub struct Bounds {
 
 // ---- finding it
 
-// lo is the decision's weight plus its negative edges, hi is it plus its positive ones.
+// Of a decision i of weight a, whose neighbours are those of the mask m: lo is a plus the negative edges, hi is a plus the positive ones.
 #[tactic(auto, using(graph::specs::MaskLaws::these_head))]
-pub fn bounds_of(g: &Graph, i: usize) -> Bounds
-    requires { (i < 64) × (∣ lin g.now i ∣ ≤ 1099511627776) × Small 2199023255552 g.now.edges }
-    ensures { (result ≡ bounds_at g.now i) × (∣ result.lo ∣ ≤ 2 ^ 50) × (∣ result.hi ∣ ≤ 2 ^ 50) }
+pub fn bounds_of(edges: &[i64; 4096], a: i64, m: u64, i: usize) -> Bounds
+    requires { (i < 64) × (∣ a ∣ ≤ 1099511627776) × Small 2199023255552 edges.now }
+    ensures { BoundsAre result a m i edges.now × (∣ result.lo ∣ ≤ 2 ^ 50) × (∣ result.hi ∣ ≤ 2 ^ 50) }
 {
-    let a = g.linear(i);
     let mut lo = a;
     let mut hi = a;
-    for j in Members(g.mask(i)) {
-        let w = g.edge(i, j);
+    for j in Members(m) {
+        let w = edges[64 * i + j];
         let below = w.min(0);
         lo += below;
         hi += w - below;
@@ -44,26 +44,57 @@ pub fn bounds_of(g: &Graph, i: usize) -> Bounds
     Bounds { lo, hi }
 }
 
-// Whether an edge w dominates, and then whether it is weak: one of the two bounds is 0.
+// The two bounds that an edge w is tested by: hi less its size, and lo and its size.
+pub fn edge_bounds(bounds: Bounds, w: i64) -> Bounds
+    requires { (∣ bounds.lo ∣ ≤ 2 ^ 50) × (∣ bounds.hi ∣ ≤ 2 ^ 50) × (∣ w ∣ ≤ 2199023255552) }
+    ensures { result ≡ edge_bounds_of bounds w }
+{
+    let size = w.abs();
+    Bounds {
+        lo: bounds.lo + size,
+        hi: bounds.hi - size,
+    }
+}
+
+// Whether an edge of these two bounds dominates.
+pub fn passes(upper: i64, lower: i64) -> bool
+    ensures { result ≡ (le_z upper (pos 0) && le_z (pos 0) lower) }
+{
+    upper <= 0 && lower >= 0
+}
+
+// Either bound is 0: told of an edge that does not pass, too.
+pub fn is_weak(upper: i64, lower: i64) -> bool
+    ensures { result ≡ (is_zero_z upper || is_zero_z lower) }
+{
+    upper == 0 || lower == 0
+}
+
+// Whether it dominates, and then whether it is weak.
+pub fn verdict(upper: i64, lower: i64) -> Option<bool>
+    ensures { result ≡ verdict_of upper lower }
+{
+    passes(upper, lower).then_some(is_weak(upper, lower))
+}
+
+// The verdict on an edge w of the decision.
 pub fn test_edge(bounds: Bounds, w: i64) -> Option<bool>
     requires { (∣ bounds.lo ∣ ≤ 2 ^ 50) × (∣ bounds.hi ∣ ≤ 2 ^ 50) × (∣ w ∣ ≤ 2199023255552) }
     ensures { result ≡ test_of bounds w }
 {
-    let upper = bounds.hi - w.abs();
-    let lower = bounds.lo + w.abs();
-    let weak = upper == 0 || lower == 0;
-    (upper <= 0 && lower >= 0).then_some(weak)
+    let tested = edge_bounds(bounds, w);
+    verdict(tested.hi, tested.lo)
 }
 
 // Neighbours ascending, the first that passes, and whether it is weak.
 #[tactic(auto, using(graph::specs::MaskLaws::these_head))]
-pub fn dominant_neighbour(g: &Graph, i: usize) -> Option<(usize, bool)>
-    requires { (i < 64) × (∣ lin g.now i ∣ ≤ 1099511627776) × Small 2199023255552 g.now.edges }
-    ensures { result ≡ dominant_of g.now i }
+pub fn dominant_neighbour(edges: &[i64; 4096], a: i64, m: u64, i: usize) -> Option<(usize, bool)>
+    requires { (i < 64) × (∣ a ∣ ≤ 1099511627776) × Small 2199023255552 edges.now }
+    ensures { Finds result a m i edges.now }
 {
-    let bounds = bounds_of(g, i);
-    for j in Members(g.mask(i)) {
-        if let Some(weak) = test_edge(bounds, g.edge(i, j)) {
+    let bounds = bounds_of(edges, a, m, i);
+    for j in Members(m) {
+        if let Some(weak) = test_edge(bounds, edges[64 * i + j]) {
             return Some((j, weak));
         }
     }

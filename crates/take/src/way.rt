@@ -40,7 +40,7 @@ fn dominant_if(g: &Graph, i: usize, options: Options) -> Option<(usize, bool)>
     ensures { result ≡ answer_of g.now i (dominant_if options g.now i) }
 {
     if options.dominant_edge {
-        return dominant_edge::dominant_neighbour(g, i);
+        return dominant_edge::dominant_neighbour(g.edges(), g.linear(i), g.mask(i), i);
     }
     None
 }

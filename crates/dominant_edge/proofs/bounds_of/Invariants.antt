@@ -1,10 +1,10 @@
 use Rattle.std.proofs.Common.{◌≡◌, ◌+ℤ◌}
 use Rattle.whole.specs.Masks.{these}
-use Rattle.rules.specs.Graph.{row}
-use Rattle.rules.specs.DominantEdge.{negatives, positives, lo, hi}
+use Rattle.rules.specs.DominantEdge.{negatives, positives}
+use Rattle.dominant_edge.proofs.Finding.{edges_to}
 use Rattle.dominant_edge.proofs.bounds_of.Given as goal
 
 abbrev pub invariant-loop-j : goal.invariant-loop-j
 invariant-loop-j l =
-    (l.lo +ℤ negatives (row l.g l.i (these l.j-iterator.0)) ≡ lo l.g l.i)
-    × (l.hi +ℤ positives (row l.g l.i (these l.j-iterator.0)) ≡ hi l.g l.i)
+    (l.lo +ℤ negatives (edges_to l.edges l.i (these l.j-iterator.0)) ≡ l.a +ℤ negatives (edges_to l.edges l.i (these l.m)))
+    × (l.hi +ℤ positives (edges_to l.edges l.i (these l.j-iterator.0)) ≡ l.a +ℤ positives (edges_to l.edges l.i (these l.m)))
