@@ -1,9 +1,9 @@
 -- Laws of a block's minima, its steps and its drops.
 -- Assumes nothing.
-use Rattle.std.specs.Prelude.{◌≡◌, length, map, get_or, set, drop, replicate, ℤ, pos}
+use Rattle.std.specs.Prelude.{◌≡◌, length, map, get_or, set, take, drop, replicate, ℤ, pos}
 use Rattle.std.proofs.Math.Path.{refl, sym, ap, ap₂, fun_ext}
 use Rattle.std.proofs.Math.Decide.{ℕ_discrete, dec_lt}
-use Rattle.std.proofs.Common.{◌∙◌, subst, arith, add-one, add-zero, zero-add, drop-cons, get_or-set_same, get_or-set_other, pow_mono, length-drop}
+use Rattle.std.proofs.Common.{◌∙◌, subst, arith, add-one, add-zero, zero-add, drop-cons, get_or-set_same, get_or-set_other, pow_mono, length-drop, length-take-le}
 use Rattle.std.proofs.lemmas.List.{map-append, nil_from_length}
 use mathlib.Core.List.{List, [], ◌∷◌, ◌++◌, append_assoc}
 use Prim.Native.Nat.{ℕ, zero, suc, ◌+◌, ◌-◌, ◌^◌, ◌<◌, ◌≤◌}
@@ -87,13 +87,35 @@ module _ (c : ℕ → ℕ → ℤ) (count size : ℕ) (won : List Best) (w : Low
           go (yes l) = omega (arith, ap ∣◌∣ (table_at won f l), cost_small f)
           go (no d) = omega (arith, ap ∣◌∣ (table_rest won f (omega arith)))
 
--- ---- one more step is held
-pub listed_more : (xs : List Step) (f : ℕ → rule.Step) (k : ℕ) → (xs ++ map hold (tab f k)) ++ hold (f k) ∷ [] ≡ xs ++ map hold (tab f (k + 1))
+-- ---- a step as a record holds it
+pub held_step : (i c d f s t : ℕ) (near : List ℕ) → d ≡ length near → f ≡ get_or near 0 0 → s ≡ get_or near 1 0 → t ≡ get_or near 2 0
+    → ◌≡◌ {A = Step} (record { decision = i; degree = d; first = f; second = s; third = t; choices = c }) (hold (rule.step i near c))
+held_step i c d f s t near p q r u = rw (p, q, r, u)
+
+-- of two decisions the first w: that many, and never a third
+pub pair_length : (a b w : ℕ) → w ≤ 2 → length (take w (a ∷ b ∷ [])) ≡ w
+pair_length a b w h = length-take-le w (a ∷ b ∷ []) h
+
+pub pair_third : (a b w : ℕ) → get_or (take w (a ∷ b ∷ [])) 2 0 ≡ 0
+pair_third a b zero = refl
+pair_third a b (suc zero) = refl
+pair_third a b (suc (suc w)) = third w
+  where
+    third : (w : ℕ) → get_or (a ∷ b ∷ take w []) 2 0 ≡ 0
+    third zero = refl
+    third (suc w) = refl
+
+-- ---- one more of a list, and one more step that is held
+pub listed_more : {A : Type 0} (xs : List A) (f : ℕ → A) (k : ℕ) → (xs ++ tab f k) ++ f k ∷ [] ≡ xs ++ tab f (k + 1)
 unfolding tab
-listed_more xs f k = rw (add-one, map-append) (append_assoc xs (map hold (tab f k)) (hold (f k) ∷ []))
+listed_more xs f k = rw add-one (append_assoc xs (tab f k) (f k ∷ []))
+
+pub held_more : (xs : List Step) (f : ℕ → rule.Step) (k : ℕ) → (xs ++ map hold (tab f k)) ++ hold (f k) ∷ [] ≡ xs ++ map hold (tab f (k + 1))
+held_more xs f k =
+    append_assoc xs (map hold (tab f k)) (hold (f k) ∷ []) ∙ ap (λ (ys : List Step). xs ++ ys) (sym (map-append hold (tab f k) (f k ∷ [])) ∙ ap (map hold) (listed_more [] f k))
 
 -- ---- choices: past the last filling the mask is 0, and chooses 0
-choices_from : (w k : ℕ) (m best : ℕ → ℕ) → w ≤ 2 → ((f : ℕ) → f < 2 ^ w → m f ≡ best f) → ((f : ℕ) → 2 ^ w ≤ f → m f ≡ 0)
+pub choices_from : (w k : ℕ) (m best : ℕ → ℕ) → w ≤ 2 → ((f : ℕ) → f < 2 ^ w → m f ≡ best f) → ((f : ℕ) → 2 ^ w ≤ f → m f ≡ 0)
     → bits_from (λ f. bit (m f) k) 0 4 ≡ bits_from (λ f. bit (best f) k) 0 (2 ^ w)
 unfolding bits_from
 choices_from zero k m best l h z = rw (h 0 (omega arith), z 1 (omega arith), z 2 (omega arith), z 3 (omega arith), bit_none k) (omega arith)
@@ -101,19 +123,25 @@ choices_from (suc zero) k m best l h z = rw (h 0 (omega arith), h 1 (omega arith
 choices_from (suc (suc zero)) k m best l h z = rw (h 0 (omega arith), h 1 (omega arith), h 2 (omega arith), h 3 (omega arith)) refl
 choices_from (suc (suc (suc w))) k m best l h z = absurd (omega arith)
 
--- ---- the costs, the steps and the graph that is left are those of the rules
-module _ (g : Graph) (b near : List ℕ) (is : near ≡ boundary g b) (few : length near ≤ 2) (won : List Best) (w : Lowest (λ f. inner g near f b) (length b) (2 ^ length near) won) where
-  best_at : (f : ℕ) → f < 2 ^ length near → mask_at won f ≡ best_mask g b f
+-- the same of a list of masks
+pub choices_are : (best : ℕ → ℕ) (masks : List ℕ) (w k : ℕ) → w ≤ 2 → masks ≡ tab best (2 ^ w) ++ drop (2 ^ w) (replicate 4 0)
+    → bits_from (λ f. bit (get_or masks f 0) k) 0 4 ≡ bits_from (λ f. bit (best f) k) 0 (2 ^ w)
+unfolding tab bits_from
+choices_are best masks zero k h e = rw (e, bit_none k) (omega arith)
+choices_are best masks (suc zero) k h e = rw (e, bit_none k) (omega arith)
+choices_are best masks (suc (suc zero)) k h e = rw e
+choices_are best masks (suc (suc (suc w))) k h e = absurd (omega arith)
+
+-- ---- the winning masks and what they cost are those of the rules
+module _ (g : Graph) (b near : List ℕ) (is : near ≡ boundary g b) (size : ℕ) (won : List Best) (w : Lowest (λ f. inner g near f b) (length b) size won) where
+  pub best_at : (f : ℕ) → f < size → mask_at won f ≡ best_mask g b f
   best_at f l = (w.each f l).lowest ∙ ap (λ (ns : List ℕ). cheapest (inner g ns f b) (2 ^ length b - 1)) is
 
-  pub cost_is : (f : ℕ) → f < 2 ^ length near → cost_at won f ≡ block_table g b f
+  pub cost_is : (f : ℕ) → f < size → cost_at won f ≡ block_table g b f
   cost_is f l = (w.each f l).costs ∙ ap₂ (λ (ns : List ℕ) (m : ℕ). inner g ns f b m) is (best_at f l)
 
-  choices_are : (k : ℕ) → bits_from (λ f. bit (mask_at won f) k) 0 4 ≡ bits_from (λ f. bit (best_mask g b f) k) 0 (2 ^ length (boundary g b))
-  choices_are k =
-      choices_from (length near) k (mask_at won) (best_mask g b) few best_at (λ f l. ap (λ (x : Best). x.mask) (w.rest f l))
-      ∙ ap (λ (ns : List ℕ). bits_from (λ f. bit (best_mask g b f) k) 0 (2 ^ length ns)) is
-
+-- ---- the members' steps are those of the rules where the masks are, in whatever list the members stand first
+module _ (g : Graph) (b near : List ℕ) (is : near ≡ boundary g b) (few : length near ≤ 2) (won : List Best) where
   abbrev step_at : ℕ → ℕ → rule.Step
   step_at k i = rule.step i (boundary g b) (bits_from (λ f. bit (best_mask g b f) k) 0 (2 ^ length (boundary g b)))
 
@@ -127,15 +155,24 @@ module _ (g : Graph) (b near : List ℕ) (is : near ≡ boundary g b) (few : len
       up : (k : ℕ) → step_at (suc j + k) (get_or is k 0) ≡ step_at (j + suc k) (get_or is k 0)
       up k = ap (λ (m : ℕ). step_at m (get_or is k 0)) (shift j k)
 
-  pub steps_are : tab (λ k. member_step near won k (get_or b k 0)) (length b) ≡ block_steps g b 0 b
-  steps_are =
-      tab_same (λ k. member_step near won k (get_or b k 0)) (λ k. step_at (0 + k) (get_or b k 0)) (length b) (λ k l. same k)
+  pub steps_by : (order : List ℕ) → ((f : ℕ) → f < 2 ^ length near → mask_at won f ≡ best_mask g b f) → ((f : ℕ) → 2 ^ length near ≤ f → mask_at won f ≡ 0)
+      → ((k : ℕ) → k < length b → get_or order k 0 ≡ get_or b k 0) → tab (λ k. member_step near won k (get_or order k 0)) (length b) ≡ block_steps g b 0 b
+  steps_by order best rest at =
+      tab_same (λ k. member_step near won k (get_or order k 0)) (λ k. step_at (0 + k) (get_or b k 0)) (length b) (λ k l. same k (at k l))
       ∙ sym (steps_from_lem 0 b)
     where
-      same : (k : ℕ) → member_step near won k (get_or b k 0) ≡ step_at (0 + k) (get_or b k 0)
-      same k =
-          ap₂ (λ (ns : List ℕ) (c : ℕ). rule.step (get_or b k 0) ns c) is (choices_are k)
+      chosen : (k : ℕ) → bits_from (λ f. bit (mask_at won f) k) 0 4 ≡ bits_from (λ f. bit (best_mask g b f) k) 0 (2 ^ length (boundary g b))
+      chosen k = choices_from (length near) k (mask_at won) (best_mask g b) few best rest ∙ ap (λ (ns : List ℕ). bits_from (λ f. bit (best_mask g b f) k) 0 (2 ^ length ns)) is
+
+      same : (k : ℕ) → get_or order k 0 ≡ get_or b k 0 → member_step near won k (get_or order k 0) ≡ step_at (0 + k) (get_or b k 0)
+      same k e =
+          ap (member_step near won k) e ∙ ap₂ (λ (ns : List ℕ) (c : ℕ). rule.step (get_or b k 0) ns c) is (chosen k)
           ∙ ap (λ (m : ℕ). step_at m (get_or b k 0)) (sym (zero-add k))
+
+-- ---- with the minima, the steps and the graph that is left are those of the rules
+module _ (g : Graph) (b near : List ℕ) (is : near ≡ boundary g b) (few : length near ≤ 2) (won : List Best) (w : Lowest (λ f. inner g near f b) (length b) (2 ^ length near) won) where
+  pub steps_are : tab (λ k. member_step near won k (get_or b k 0)) (length b) ≡ block_steps g b 0 b
+  steps_are = steps_by g b near is few won b (best_at g b near is (2 ^ length near) won w) (λ f l. ap (λ (x : Best). x.mask) (w.rest f l)) (λ k l. refl)
 
   -- the graph that is left
   pub block_left : (h r : Graph) → h ≡ drop_all b g → r ≡ rule.absorb (λ f. get_or (table_of won) f (pos 0)) near h → r ≡ eliminate_block b g
@@ -144,7 +181,7 @@ module _ (g : Graph) (b near : List ℕ) (is : near ≡ boundary g b) (few : len
       d
       ∙ ap₂ (λ (ns : List ℕ) (x : Graph). rule.absorb (λ f. get_or (table_of won) f (pos 0)) ns x) is e
       ∙ absorb_same (λ f. get_or (table_of won) f (pos 0)) (block_table g b) (boundary g b) (drop_all b g) (subst (λ (ns : List ℕ). length ns ≤ 2) is few)
-      (λ f l. let m : f < 2 ^ length near = rw is l in table_at won f (omega (arith, pow_mono {j = 2} few)) ∙ cost_is f m)
+      (λ f l. let m : f < 2 ^ length near = rw is l in table_at won f (omega (arith, pow_mono {j = 2} few)) ∙ cost_is g b near is (2 ^ length near) won w f m)
 
 -- ---- what is dropped stays within the size rule, and has as many decisions
 pub within_drop_all : (b : List ℕ) (g : Graph) → Within g → Within (drop_all b g)

@@ -6,7 +6,7 @@ use Rattle.rules.specs.Eliminate as rule
 use Rattle.rules.specs.Record.{hold}
 use Rattle.rules.specs.declared.Step.{Step}
 use Rattle.block_elimination.specs.Block.{member_step}
-use Rattle.block_elimination.specs.BlockLaws.{listed_more}
+use Rattle.block_elimination.specs.BlockLaws.{held_more}
 use Rattle.block_elimination.proofs.block_steps.Goals as goal
 
 pub loop-k-init : goal.loop-k-init
@@ -26,4 +26,4 @@ loop-k-preserved c =
     let l = c.loop-k in
     let a = c.args in
     let step : ℕ → rule.Step = λ k. member_step a.outside.now a.won k (get_or a.members.now k 0) in
-    (omega arith, c.push.ensures ∙ ap₂ (λ (xs : List Step) (y : Step). xs ++ y ∷ []) l.invariant.1 c.member_step.ensures ∙ listed_more a.steps.now step l.k)
+    (omega arith, c.push.ensures ∙ ap₂ (λ (xs : List Step) (y : Step). xs ++ y ∷ []) l.invariant.1 c.member_step.ensures ∙ held_more a.steps.now step l.k)
