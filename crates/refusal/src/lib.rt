@@ -27,7 +27,10 @@ fn weigh(start: u64, weights: &[i64]) -> u64
 {
     let mut sum = start;
     for w in weights {
-        sum = sum.saturating_add(w.unsigned_abs()).min(1099511627777);
+        sum = sum.saturating_add(w.unsigned_abs());
+        if sum > 1099511627776 {
+            return 1099511627777;
+        }
     }
     sum
 }
