@@ -1,5 +1,5 @@
 use Rattle.std.proofs.Common.{ap, ◌∙◌, arith}
-use Rattle.rules.specs.Graph.{Graph, bare, add_terms, graph_of}
+use Rattle.rules.specs.Graph.{bare, add_terms, graph_of}
 use Rattle.rules.specs.Fixing.{fix_all, start}
 use Rattle.rules.specs.Given.{of_lists}
 use Rattle.graph.proofs.Start.{bare_sums, termed_mass}
