@@ -10,7 +10,7 @@ use whole::Members;
 
 // 64 places that go round, where the front stands in them, how many wait, and a mask of those that do.
 // Kept: an array with its length beside it, since there is no heap: 01 names the struct, and 64 places are enough.
-#[derive(Drop)]
+#[derive(Clone, Copy)]
 pub struct Queue {
     head: usize,
     len: usize,
@@ -18,23 +18,28 @@ pub struct Queue {
     places: [u8; 64],
 }
 
-// Clauses see who waits, the front first.
+// Clauses speak of who waits, the front first.
 impl Model for Queue {
-    ghost use Rattle.std.specs.Prelude.{List, ℕ};
+    ghost use Rattle.queue.specs.Waiting.{Waiting};
 
-    ghost Value = { List ℕ };
+    ghost Value = { Waiting };
 
-    ghost use Rattle.queue.specs.Items.{items, QueueKept};
+    ghost use Rattle.queue.specs.Fields.{seen, fields, QueueWhole};
+    ghost use Rattle.queue.specs.FieldsLaws.{given_back};
 
-    ghost view = { items };
+    ghost view = { seen };
 
-    ghost invariant = { QueueKept };
+    ghost invariant = { QueueWhole };
+
+    ghost inverse = { fields };
+
+    ghost inverse_ok = { given_back };
 }
 
 impl Queue {
     // Nobody waits.
     pub fn new() -> Queue
-        ensures { result ≡ [] }
+        ensures { result.who ≡ [] }
     {
         Queue {
             head: 0,
@@ -46,7 +51,7 @@ impl Queue {
 
     // Who is in front, and the queue of those behind.
     pub fn take_front(self) -> Option<(usize, Queue)>
-        ensures { MatchOption result (self ≡ []) (λ r. (self ≡ r.0 ∷ r.1) × (r.0 < 64)) }
+        ensures { MatchOption result (self.who ≡ []) (λ r. (self.who ≡ r.0 ∷ r.1.who) × (r.0 < 64)) }
     {
         if self.len == 0 {
             return None;
@@ -62,15 +67,15 @@ impl Queue {
 
     // Those of a mask who do not wait.
     pub fn not_waiting(&self, of: u64) -> u64
-        ensures { these result ≡ those (λ k. not (mem k self.now)) (these of) }
+        ensures { these result ≡ those (λ k. not (mem k self.now.who)) (these of) }
     {
         whole::without(of, self.waiting)
     }
 
     // The decisions of a mask, none of which waits, join the back, ascending: so there is room.
     pub fn push_all(self, new: u64) -> Queue
-        requires { (k : ℕ) → mem k (these new) ≡ true → mem k self ≡ false }
-        ensures { result ≡ self ++ these new }
+        requires { (k : ℕ) → mem k (these new) ≡ true → mem k self.who ≡ false }
+        ensures { result.who ≡ self.who ++ these new }
     {
         let mut next = self;
         for d in Members(new) {

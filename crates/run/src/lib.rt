@@ -15,7 +15,7 @@ mod block; // the block that is due
 mod pass; // from the queue's first to nobody
 
 // How far a run has come: its state and its steps.
-#[derive(Drop)]
+#[derive(Clone, Copy)]
 pub struct Reached {
     pub state: State,
     pub steps: Steps,

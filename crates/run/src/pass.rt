@@ -14,7 +14,8 @@ pub fn pass(g: &mut Graph, at: &mut Reached, options: Options, budget: u32) -> R
         × (at.old.state.takes + at.old.state.blocks ≤ at.new.state.takes + at.new.state.blocks) }
 {
     let mut q = waiting::first_queue(g, options);
-    while let Some((i, behind)) = q.take_front() {
+    while let Some(first) = q.take_front() {
+        let (i, behind) = first;
         if at.state.units() == budget {
             return Err(CutShort);
         }

@@ -8,7 +8,7 @@ use Rattle.std.proofs.Math.Seq.{append_snoc}
 use Rattle.rules.specs.declared.Step.{Step}
 use Rattle.rules.specs.Eliminate as rule
 use Rattle.rules.specs.Record.{no_step, hold, hold_all}
-use Rattle.state.specs.Steps.{StepsKept}
+use Rattle.state.specs.Steps.{StepsKept, places_of}
 use Rattle.state.specs.declared.steps.Steps.TheInside.{Inside}
 
 -- the places of a list of steps, as the record has them
@@ -24,6 +24,9 @@ held_more made ss y e = rw (e, map-append) refl
 module _ (s : Inside) (k : StepsKept s) where
   pub made_length : length (take s.count s.list) ≡ s.count
   made_length = length-take-le s.count s.list (omega (arith, k.long, k.count))
+
+  pub given_back : places_of (take s.count s.list) ≡ s
+  given_back = rw (made_length, ← k.list) refl
 
   module _ (x : Step) (room : s.count < 64) where
     pub made_more : take (s.count + 1) (set s.list s.count x) ≡ take s.count s.list ++ x ∷ []

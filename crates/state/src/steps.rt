@@ -6,7 +6,7 @@ use rules::Step;
 use std::marker::Model;
 
 // Kept: 64 places with a count beside them: the record has them all (project rule: fixed memory).
-#[derive(Drop)]
+#[derive(Clone, Copy)]
 pub struct Steps {
     list: [Step; 64],
     count: usize,
@@ -16,13 +16,19 @@ pub struct Steps {
 impl Model for Steps {
     ghost use Rattle.std.specs.Prelude.{List, take};
     ghost use Rattle.rules.specs.declared.Step.{Step};
-    ghost use Rattle.state.specs.Steps.{StepsKept};
 
     ghost Value = { List Step };
+
+    ghost use Rattle.state.specs.Steps.{StepsKept, places_of};
+    ghost use Rattle.state.specs.StepsLaws.{given_back};
 
     ghost view = { λ s. take s.count s.list };
 
     ghost invariant = { StepsKept };
+
+    ghost inverse = { places_of };
+
+    ghost inverse_ok = { given_back };
 }
 
 impl Steps {

@@ -27,7 +27,7 @@ fn may_join(g: &Graph, options: Options, j: usize) -> bool
 
 // "A pass queues, ascending, every active decision that is eligible."
 pub fn first_queue(g: &Graph, options: Options) -> Queue
-    ensures { result ≡ waiting options g.now }
+    ensures { result.who ≡ waiting options g.now }
 {
     g.known();
     let who = whole::those(u64::MAX, |i| i < g.n() && may_join(g, options, i));
@@ -37,7 +37,7 @@ pub fn first_queue(g: &Graph, options: Options) -> Queue
 
 // "its neighbours as they were (ascending) join the back if active, not waiting and now eligible": those of the mask.
 pub fn rejoin(g: &Graph, options: Options, queue: Queue, near: u64) -> Queue
-    ensures { result ≡ join options g.now (these near) queue }
+    ensures { result.who ≡ join options g.now (these near) queue.who }
 {
     let others = queue.not_waiting(near);
     let who = whole::those(others, |j| may_join(g, options, j));

@@ -14,10 +14,10 @@ pub push_all-requires : goal.push_all-requires
 push_all-requires c =
     let a = c.args in
     let others = c.not_waiting-others in
-    new_ones a.options a.g.now a.queue a.near others.result c.those-who.result others.ensures (found c)
+    new_ones a.options a.g.now a.queue.who a.near others.result c.those-who.result others.ensures (found c)
 
 pub returns : goal.returns
 returns c =
     let a = c.args in
     let others = c.not_waiting-others in
-    c.push_all.ensures ∙ rejoined a.options a.g.now a.queue a.near others.result c.those-who.result others.ensures (found (goal.at.returns c).After-those-who)
+    c.push_all.ensures ∙ rejoined a.options a.g.now a.queue.who a.near others.result c.those-who.result others.ensures (found (goal.at.returns c).After-those-who)
