@@ -1,8 +1,8 @@
 -- A run begins, a take or a block takes it one unit on, and it ends; and what a state on its course gives: room for every count, weights within the size rule, a block that can be eliminated.
 -- Assumes nothing.
-use Rattle.std.specs.Prelude.{◌≡◌, true, false, Some, None, map, ℕ, ◌+◌, ◌-◌, ◌<◌, ◌≤◌}
+use Rattle.std.specs.Prelude.{◌≡◌, true, false, Some, None, map, ℕ, ◌+◌, ◌-◌, ◌<◌, ◌≤◌, get_or}
 use Rattle.std.proofs.Math.Path.{refl, sym, ap}
-use Rattle.std.proofs.Common.{◌∙◌, subst, arith, sub-eq-zero_of_le}
+use Rattle.std.proofs.Common.{◌∙◌, subst, arith, sub-eq-zero_of_le, eq-eqb}
 use mathlib.Core.List.{List, [], ◌∷◌, ◌++◌}
 use Rattle.std.proofs.Math.Nat.{sub-zero}
 use Rattle.std.proofs.Math.ListN.{length, length-append}
@@ -69,7 +69,7 @@ module _ (budget : ℕ) (opt : Options) (E : run.Ended) (S : run.State) (g : Gra
   pub used : at.state.takes + at.state.blocks ≡ units S
   used = omega (arith, c.holds.takes, c.holds.blocks)
 
-  fine : Fine g
+  pub fine : Fine g
   fine = subst Fine (sym c.holds.graph) c.order.sound.stands.fine
 
   within : Within g
@@ -93,6 +93,10 @@ module _ (budget : ℕ) (opt : Options) (E : run.Ended) (S : run.State) (g : Gra
 
   pub ready : (i : ℕ) → i < 64 → Ready g i
   ready i h = record { below = h; within = within }
+
+  -- who is active is a decision
+  pub inside : (k : ℕ) → get_or g.states k 0 ≡ 2 → k < g.n
+  inside k h = fine.inside k (eq-eqb (get_or g.states k 0) 2 h)
 
   pub searchable : Network 64 (neighbours g)
   searchable = neat_network g fine.shaped fine.neat
