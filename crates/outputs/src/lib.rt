@@ -1,68 +1,78 @@
 // The outputs, over the remaining decisions alone.
 #![tactic(auto)]
 
-ghost use Rattle.std.specs.Prelude.{◌≡◌, ◌<◌, map, length, replicate, pos};
-ghost use Rattle.whole.specs.Words.{tab, upto};
-ghost use Rattle.whole.specs.Masks.{these};
-ghost use Rattle.rules.specs.Graph.{actives};
-ghost use Rattle.outputs.specs.Out.{linear_of, cell_of, entry_of, Placed};
+ghost use Rattle.std.specs.Prelude.{◌≡◌, ℕ, ◌<◌, ◌≤◌, length, replicate, pos};
+ghost use Rattle.whole.specs.Words.{tab};
+ghost use Rattle.graph.specs.Shows.{Shows};
+ghost use Rattle.outputs.specs.Out.{rest, active_of, Places, MaskShows, linear_at, edge_at, entry_of};
+ghost use Rattle.outputs.specs.Listing.{Turned};
 
-use graph::Graph;
 use whole::Members;
 
-// The active decisions, as a mask.
-pub fn still_there(g: &Graph) -> u64
-    ensures { these result ≡ actives g.now }
+// The decisions that remain, and the place of each among them; 64 for one that does not.
+// Kept: arrays with a count beside them, and 64 for no place: it is copied, and callers read all three.
+#[derive(Clone, Copy)]
+pub struct Remaining {
+    pub list: [u8; 64],
+    pub len: usize,
+    pub places: [u8; 64],
+}
+
+// The active decisions, ascending.
+pub fn still_there(states: &[u8; 64], n: usize) -> Remaining
+    requires { n ≤ 64 }
+    ensures { (rest result ≡ active_of states.now n) × Places result.list result.len × Turned result.list result.places result.len }
 {
-    g.known();
-    whole::those(u64::MAX, |i| i < g.n() && g.is_active(i))
+    let mut r = Remaining {
+        list: [0; 64],
+        len: 0,
+        places: [64; 64],
+    };
+    for i in 0..n {
+        let is_active = states[i] == 2;
+        if is_active {
+            r.list[r.len] = i as u8;
+            r.places[i] = r.len as u8;
+            r.len += 1;
+        }
+    }
+    r
 }
 
 // The weights of those that remain, then zeros.
-#[tactic(auto, using(graph::specs::MaskLaws::these_head))]
-pub fn write_linear(linear: &mut [i64], g: &Graph, rest: u64)
-    requires { length linear.old ≡ 64 }
-    ensures { linear.new ≡ linear_of g.now.linear (these rest) }
+#[tactic(auto, using(crate::proofs::Weights::weights_begin, crate::proofs::Weights::weights_more, crate::proofs::Weights::weights_end, crate::specs::RestLaws::linear_out_lem, crate::specs::RestLaws::rest_few))]
+pub fn write_linear(linear: &mut [i64], weights: &[i64; 64], r: Remaining)
+    requires { (length linear.old ≡ 64) × Places r.list r.len }
+    ensures { linear.new ≡ tab (linear_at weights.now r.list r.len) 64 }
 {
     linear.fill(0);
-    for (k, i) in Members(rest).enumerate() {
-        linear[k] = g.linear(i);
+    for (k, i) in r.list[..r.len].iter().enumerate() {
+        linear[k] = weights[*i as usize];
     }
 }
 
-// The place of each that remains among them.
+// The row of i, whose neighbours are those of the mask m: its edges to those that remain.
 #[tactic(auto, using(graph::specs::MaskLaws::these_head))]
-fn places_of(rest: u64) -> [u8; 64]
-    ensures { Placed (these rest) result }
+fn write_row(row: &mut [i64], e: &[i64; 4096], m: u64, i: usize, r: &Remaining)
+    requires { (row.old ≡ replicate 64 (pos 0)) × (i < 64) × Places r.now.list r.now.len × Turned r.now.list r.now.places r.now.len × MaskShows m i e.now }
+    ensures { row.new ≡ tab (entry_of e.now (rest r.now) i) 64 }
 {
-    let mut places = [0; 64];
-    for (b, j) in Members(rest).enumerate() {
-        places[j] = b as u8;
-    }
-    places
-}
-
-// The row of i: its edges to those that remain.
-#[tactic(auto, using(graph::specs::MaskLaws::these_head))]
-fn write_row(row: &mut [i64], g: &Graph, i: usize, rest: u64, places: &[u8; 64])
-    requires { (row.old ≡ replicate 64 (pos 0)) × (i < 64) × Placed (these rest) places.now }
-    ensures { row.new ≡ tab (entry_of g.now.edges (these rest) i) 64 }
-{
-    g.known();
-    for j in Members(g.mask(i) & rest) {
-        row[places[j] as usize] = g.edge(i, j);
+    for j in Members(m) {
+        let b = r.places[j] as usize;
+        if b < r.len {
+            row[b] = e[64 * i + j];
+        }
     }
 }
 
 // A row for each that remains; the rows below are zeros.
-#[tactic(auto, using(graph::specs::MaskLaws::these_head))]
-pub fn write_edges(edges: &mut [i64], g: &Graph, rest: u64)
-    requires { length edges.old ≡ 4096 }
-    ensures { edges.new ≡ map (cell_of g.now.edges (these rest)) (upto 4096) }
+pub fn write_edges(edges: &mut [i64], e: &[i64; 4096], masks: &[u64; 64], r: Remaining)
+    requires { (length edges.old ≡ 4096) × Places r.list r.len × Turned r.list r.places r.len × ((k : ℕ) × Shows k e.now masks.now) }
+    ensures { edges.new ≡ tab (edge_at e.now r.list r.len) 4096 }
 {
-    edges.fill(0);
-    let places = places_of(rest);
-    for (a, i) in Members(rest).enumerate() {
-        write_row(&mut edges[64 * a..64 * a + 64], g, i, rest, &places);
+    edges[..4096].fill(0);
+    for (a, d) in r.list[..r.len].iter().enumerate() {
+        let i = *d as usize;
+        write_row(&mut edges[64 * a..64 * a + 64], e, masks[i], i, &r);
     }
 }

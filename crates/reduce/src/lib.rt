@@ -69,10 +69,11 @@ pub fn accepted(o: Objective, linear: &mut [i64], edges: &mut [i64]) -> Reductio
     let mut g = Graph::bare(o);
     g.begin(o);
     let (reached, ended) = run::run(&mut g, Options::from(o.switches), o.budget);
-    let rest = outputs::still_there(&g);
-    outputs::write_linear(linear, &g, rest);
-    outputs::write_edges(edges, &g, rest);
-    report(&g, &reached, rest.count_ones(), ended.is_ok())
+    g.known();
+    let rest = outputs::still_there(g.states(), g.n());
+    outputs::write_linear(linear, g.weights(), rest);
+    outputs::write_edges(edges, g.edges(), g.masks(), rest);
+    report(&g, &reached, rest.len as u32, ended.is_ok())
 }
 
 // "Any lengths, numbers and bytes may be passed": a refusal with the lent slices unchanged, or the whole reduction.
