@@ -1,6 +1,16 @@
 // `BASE SEALED LENGTH;PLACE VALUE PLACE VALUE ...;`: a valid block, damaged.
 use lists::{Fields, hex, numbers};
 
+// The base of this number, into the front of the block. Each line of the bases is 1,024 digits and a newline: no two digits more.
+fn put_base(bases: &[u8], base: usize, block: &mut [u8]) -> Option<()> {
+    let line = bases.get(base.checked_mul(1025)?..)?;
+    hex(line.get(..1024)?, block)?;
+    let is_longer = line
+        .get(1024..1026)
+        .is_some_and(|pair| hex(pair, &mut [0]).is_some());
+    (!is_longer).then_some(())
+}
+
 // Each value at its place.
 fn put_edits(field: &[u8], block: &mut [u8]) -> Option<()> {
     let mut room = [0u16; 1024];
@@ -25,7 +35,7 @@ fn seal(block: &mut [u8; 1024]) {
     block[510..512].copy_from_slice(&two.to_le_bytes());
 }
 
-// The front of the lent block, which is zero behind the base. Each line of the bases is 1,024 digits and a newline.
+// The front of the lent block, which is zero behind the base.
 pub fn damaged<'a>(
     fields: &mut Fields,
     bases: &[u8],
@@ -34,8 +44,7 @@ pub fn damaged<'a>(
     let base = fields.number::<usize>(b' ')?;
     let sealed = fields.number::<u64>(b' ')?;
     let length = fields.number::<usize>(b';')?;
-    let digits = bases.chunks(1025).nth(base)?.get(..1024)?;
-    hex(digits, block)?;
+    put_base(bases, base, block)?;
     put_edits(fields.until(b';')?, &mut block[..512])?;
     if sealed == 1 {
         seal(block);
