@@ -1,5 +1,5 @@
 // `BASE SEALED LENGTH;PLACE VALUE PLACE VALUE ...;`: a valid block, damaged.
-use lists::{Fields, hex, numbers};
+use lists::{Fields, hex, number};
 
 // The base of this number, into the front of the block. Each line of the bases is 1,024 digits and a newline: no two digits more.
 fn put_base(bases: &[u8], base: usize, block: &mut [u8]) -> Option<()> {
@@ -13,14 +13,18 @@ fn put_base(bases: &[u8], base: usize, block: &mut [u8]) -> Option<()> {
 
 // Each value at its place.
 fn put_edits(field: &[u8], block: &mut [u8]) -> Option<()> {
-    let mut room = [0u16; 1024];
-    let (edits, []) = numbers(field, &mut room)?.as_chunks::<2>() else {
-        return None;
-    };
-    for [place, value] in edits {
-        *block.get_mut(usize::from(*place))? = u8::try_from(*value).ok()?;
+    if field.is_empty() {
+        return Some(());
     }
-    Some(())
+    let mut place: Option<usize> = None;
+    for piece in field.split(|b| *b == b' ') {
+        if let Some(at) = place.take() {
+            *block.get_mut(at)? = number(piece)?;
+        } else {
+            place = Some(number(piece)?);
+        }
+    }
+    place.is_none().then_some(())
 }
 
 // The check of the first 508 bytes, made here and not by the library.
