@@ -1,6 +1,13 @@
 // `BASE SEALED LENGTH;PLACE VALUE PLACE VALUE ...;`: a valid block, damaged.
 use lists::{Fields, hex, number};
 
+// A number of 64 bits. The six greatest are none in a list.
+fn word(fields: &mut Fields, end: u8) -> Option<usize> {
+    fields
+        .number::<usize>(end)
+        .filter(|v| *v < 18_446_744_073_709_551_610)
+}
+
 // The base of this number, into the front of the block. Each line of the bases is 1,024 digits and a newline: no two digits more.
 fn put_base(bases: &[u8], base: usize, block: &mut [u8]) -> Option<()> {
     let line = bases.get(base.checked_mul(1025)?..)?;
@@ -46,8 +53,8 @@ pub fn damaged<'a>(
     block: &'a mut [u8; 1024],
 ) -> Option<&'a [u8]> {
     let base = fields.number::<usize>(b' ')?;
-    let sealed = fields.number::<u64>(b' ')?;
-    let length = fields.number::<usize>(b';')?;
+    let sealed = word(fields, b' ')?;
+    let length = word(fields, b';')?;
     put_base(bases, base, block)?;
     put_edits(fields.until(b';')?, &mut block[..512])?;
     if sealed == 1 {
