@@ -8,3 +8,11 @@ pub fn number_of<T>(answer: &Result<T, Refusal>) -> u8 {
         Err(refusal) => u8::from(*refusal),
     }
 }
+
+// The same, or 255 where there is no such call.
+pub fn number_if<T>(answer: &Option<Result<T, Refusal>>) -> u8 {
+    match answer {
+        Some(answer) => number_of(answer),
+        None => 255,
+    }
+}

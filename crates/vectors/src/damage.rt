@@ -2,7 +2,7 @@
 use lists::{Fields, hex, number};
 
 // A number of 64 bits. The six greatest are none in a list.
-fn word(fields: &mut Fields, end: u8) -> Option<usize> {
+pub fn word(fields: &mut Fields, end: u8) -> Option<usize> {
     fields
         .number::<usize>(end)
         .filter(|v| *v < 18_446_744_073_709_551_610)
@@ -46,12 +46,8 @@ fn seal(block: &mut [u8; 1024]) {
     block[510..512].copy_from_slice(&two.to_le_bytes());
 }
 
-// The front of the lent block, which is zero behind the base.
-pub fn damaged<'a>(
-    fields: &mut Fields,
-    bases: &[u8],
-    block: &'a mut [u8; 1024],
-) -> Option<&'a [u8]> {
+// Into the lent block, which is zero behind the base; and how much of it is asked for.
+pub fn damage(fields: &mut Fields, bases: &[u8], block: &mut [u8; 1024]) -> Option<usize> {
     let base = fields.number::<usize>(b' ')?;
     let sealed = word(fields, b' ')?;
     let length = word(fields, b';')?;
@@ -60,5 +56,5 @@ pub fn damaged<'a>(
     if sealed == 1 {
         seal(block);
     }
-    block.get(..length)
+    Some(length)
 }

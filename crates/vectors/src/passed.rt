@@ -1,7 +1,7 @@
 // passed.txt: a record is written.
-use crate::answers;
+use crate::{answers, damage};
 use lists::{Fields, hex, list};
-use rules::{Record, Step};
+use rules::{Record, Refusal, Step};
 
 // Six bytes a step, in the block's order.
 pub fn steps_of(bytes: &[u8]) -> [Step; 64] {
@@ -26,10 +26,15 @@ fn bytes_of<const N: usize>(field: &[u8]) -> Option<[u8; N]> {
     list(field, &mut room)?.try_into().ok()
 }
 
+// Into a lent block, where there is one that long.
+fn write_front(record: Record, block: Option<&mut [u8]>) -> Option<Result<(), Refusal>> {
+    Some(record::write::write_record(record, block?))
+}
+
 // What is not told to be written stays as it was.
 pub fn agrees(line: &[u8]) -> Option<bool> {
     let mut fields = Fields { rest: line };
-    let length = fields.number::<usize>(b' ')?;
+    let length = damage::word(&mut fields, b' ')?;
     let record = Record {
         n: fields.number(b' ')?,
         count: fields.number(b' ')?,
@@ -39,8 +44,8 @@ pub fn agrees(line: &[u8]) -> Option<bool> {
     };
     let mut block = [170u8; 1024];
     let mut told = [170u8; 1024];
-    let written = record::write::write_record(record, block.get_mut(..length)?);
-    let is_answered = fields.number::<u8>(b';')? == answers::number_of(&written);
+    let written = write_front(record, block.get_mut(..length));
+    let is_answered = fields.number::<u8>(b';')? == answers::number_if(&written);
     hex(fields.until(b'\n')?, &mut told)?;
     Some(is_answered && told == block && fields.rest.is_empty())
 }

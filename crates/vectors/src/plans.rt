@@ -11,10 +11,10 @@ enum Kind {
     Project,
 }
 
-impl TryFrom<u8> for Kind {
+impl TryFrom<usize> for Kind {
     type Error = ();
 
-    fn try_from(number: u8) -> Result<Kind, ()> {
+    fn try_from(number: usize) -> Result<Kind, ()> {
         match number {
             0 => Ok(Kind::GrowBackBlock),
             1 => Ok(Kind::ProjectBlock),
@@ -40,14 +40,22 @@ fn record_of(block: &[u8]) -> Record {
     }
 }
 
+// None where there is no such kind, or no memory so long as is asked.
 // Kept: a match, since the kind is read from each line.
-fn called(kind: Kind, block: &[u8], lent: &[u8], out: &mut [u8]) -> Result<(), Refusal> {
-    match kind {
+fn called(
+    kind: usize,
+    block: Option<&[u8]>,
+    lent: &[u8],
+    out: Option<&mut [u8]>,
+) -> Option<Result<(), Refusal>> {
+    let block = block?;
+    let out = out?;
+    Some(match Kind::try_from(kind).ok()? {
         Kind::GrowBackBlock => back::grow::grow_back_block(block, lent, out),
         Kind::ProjectBlock => back::project::project_block(block, lent, out),
         Kind::GrowBack => back::grow::grow_back(record_of(block), lent, out),
         Kind::Project => back::project::project(record_of(block), lent, out),
-    }
+    })
 }
 
 // What is not told to be written stays as it was.
@@ -57,12 +65,12 @@ pub fn agrees(line: &[u8], bases: &[u8]) -> Option<bool> {
     let mut out = [170u8; 128];
     let mut told = [170u8; 128];
     let mut fields = Fields { rest: line };
-    let kind = Kind::try_from(fields.number::<u8>(b' ')?).ok()?;
-    let block = damage::damaged(&mut fields, bases, &mut block)?;
+    let kind = damage::word(&mut fields, b' ')?;
+    let length = damage::damage(&mut fields, bases, &mut block)?;
     let lent = list(fields.until(b';')?, &mut lent)?;
-    let length = fields.number::<usize>(b';')?;
-    let answer = called(kind, block, lent, out.get_mut(..length)?);
-    let is_answered = fields.number::<u8>(b';')? == answers::number_of(&answer);
+    let asked = damage::word(&mut fields, b';')?;
+    let answer = called(kind, block.get(..length), lent, out.get_mut(..asked));
+    let is_answered = fields.number::<u8>(b';')? == answers::number_if(&answer);
     list(fields.until(b'\n')?, &mut told)?;
     Some(is_answered && told == out && fields.rest.is_empty())
 }

@@ -12,7 +12,8 @@ fn is_written_back(record: Record, block: &[u8]) -> bool {
 pub fn agrees(line: &[u8], bases: &[u8]) -> Option<bool> {
     let mut room = [0u8; 1024];
     let mut fields = Fields { rest: line };
-    let block = damage::damaged(&mut fields, bases, &mut room)?;
+    let length = damage::damage(&mut fields, bases, &mut room)?;
+    let block = room.get(..length)?;
     let read = record::read::read_record(block);
     let is_answered = fields.number::<u8>(b'\n')? == answers::number_of(&read);
     let is_same = match read {
