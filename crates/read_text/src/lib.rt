@@ -9,13 +9,12 @@ ghost use Rattle.rules.specs.ReadText.{turned, weight, line, head, terms, after_
 ghost use Rattle.decimal.specs.Seen.{seen};
 ghost use Rattle.read_text.specs.Seen.{seen_line, head_of, terms_in, seen_lists, seen_input};
 
-use field::Field;
+pub use field::Field;
 use rules::Refusal;
-pub use text::Text;
-use text::{Head, Terms};
+pub use text::{Head, Terms, Text};
 
 // A line of numbers, one for each place of `out`.
-fn read_line<'a, T: Field>(text: &'a [u8], out: &mut [T]) -> Option<&'a [u8]>
+pub fn read_line<'a, T: Field>(text: &'a [u8], out: &mut [T]) -> Option<&'a [u8]>
     ensures { seen_line out.new result ≡ line T.one (length out.old) text.now }
 {
     if out.is_empty() {
@@ -34,7 +33,7 @@ fn read_line<'a, T: Field>(text: &'a [u8], out: &mut [T]) -> Option<&'a [u8]>
 
 // The first line.
 #[tactic(auto, unfolding(rules::specs::ReadText::head))]
-fn read_head(text: &[u8]) -> Option<(Head, &[u8])>
+pub fn read_head(text: &[u8]) -> Option<(Head, &[u8])>
     ensures { turned head_of (seen result) ≡ head text.now }
 {
     let (n, rest) = u32::read(text, b' ')?;
@@ -53,7 +52,7 @@ fn read_head(text: &[u8]) -> Option<(Head, &[u8])>
 }
 
 // The lines of k terms.
-fn read_terms(k: usize, text: &[u8]) -> Option<(Terms, &[u8])>
+pub fn read_terms(k: usize, text: &[u8]) -> Option<(Terms, &[u8])>
     requires { k ≤ 1024 }
     ensures { turned (terms_in k) (seen result) ≡ terms [] [] [] k text.now }
 {
