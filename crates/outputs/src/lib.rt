@@ -19,6 +19,7 @@ pub struct Remaining {
 }
 
 // The active decisions, ascending.
+// Kept: the states alone, since any 64 states may be given and not only a graph's.
 pub fn still_there(states: &[u8; 64], n: usize) -> Remaining
     requires { n ≤ 64 }
     ensures { (rest result ≡ active_of states.now n) × Places result.list result.len × Turned result.list result.places result.len }
@@ -40,6 +41,7 @@ pub fn still_there(states: &[u8; 64], n: usize) -> Remaining
 }
 
 // The weights of those that remain, then zeros.
+// Kept: an array, since any weights may be given, with a list in any order.
 #[tactic(auto, using(crate::proofs::Weights::weights_begin, crate::proofs::Weights::weights_more, crate::proofs::Weights::weights_end, crate::specs::RestLaws::linear_out_lem, crate::specs::RestLaws::rest_few))]
 pub fn write_linear(linear: &mut [i64], weights: &[i64; 64], r: Remaining)
     requires { (length linear.old ≡ 64) × Places r.list r.len }
@@ -66,6 +68,7 @@ fn write_row(row: &mut [i64], e: &[i64; 4096], m: u64, i: usize, r: &Remaining)
 }
 
 // A row for each that remains; the rows below are zeros.
+// Kept: arrays, since any edges may be given with masks that show them, and a list in any order.
 pub fn write_edges(edges: &mut [i64], e: &[i64; 4096], masks: &[u64; 64], r: Remaining)
     requires { (length edges.old ≡ 4096) × Places r.list r.len × Turned r.list r.places r.len × ((k : ℕ) × Shows k e.now masks.now) }
     ensures { edges.new ≡ tab (edge_at e.now r.list r.len) 4096 }
