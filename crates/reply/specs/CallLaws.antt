@@ -13,7 +13,7 @@ use Rattle.write_text.specs.CallLaws.{call_fair, call_replied}
 use Rattle.reply.specs.Shape.{reported_shape}
 
 module _ {o : Objective} {l e l' e' : List ℤ} {r : Result Reduction Refusal} (weights : length l ≡ 64) (cells : length e ≡ 4096) (g : Gives o l e r l' e') where
-  pub gives_fair : IfOk r (λ x. Fair x l' e')
+  pub gives_fair : IfOk r (λ x. Fair x l' e') × (length l' ≡ 64) × (length e' ≡ 4096)
   gives_fair = rw (g.linear, g.edges) (call_fair o l e weights cells (reported_shape o) r g.reduction)
 
   pub gives_shown : {out out' : List ℕ} {n : ℕ} → AtFront out (replied r l' e') out' n → AtFront out (reply (given o)) out' n

@@ -6,7 +6,7 @@ use Rattle.rules.specs.Objective.{Objective}
 use Rattle.rules.specs.Outcome.{outcome}
 use Rattle.rules.specs.Refuse.{reduce_refusal}
 use Rattle.rules.specs.Numbers.{number_of}
-use Rattle.rules.specs.Call.{Answered, reduction, linear_after, edges_after}
+use Rattle.rules.specs.Call.{Answered, unless, reduction, linear_after, edges_after}
 use Rattle.rules.specs.ReadText.{given}
 use Rattle.rules.specs.WriteText.{written, written_refusal}
 use Rattle.rules.specs.Program.{reply}
@@ -36,9 +36,14 @@ module _ (o : Objective) (l e : List ℤ) (weights : length l ≡ 64) (cells : l
       let z : number_of k ≡ reduce_refusal o 64 4096 = rw (weights, cells) at g.number_is in
       rw (← z) (unless_kept (number_of k) k (written (outcome o)) (written_refusal (number_of k)) refl)
 
-  pub call_fair : (r : Result Reduction Refusal) → Answered (reduce_refusal o (length l) (length e)) (reduction o) r → IfOk r (λ x. Fair x (linear_after o l e) (edges_after o l e))
+  -- what it leaves is fit to be written; of a refusal too it has the lengths
+  pub call_fair : (r : Result Reduction Refusal) → Answered (reduce_refusal o (length l) (length e)) (reduction o) r → IfOk r (λ x. Fair x (linear_after o l e) (edges_after o l e)) × (length (linear_after o l e) ≡ 64) × (length (edges_after o l e) ≡ 4096)
   unfolding reduction linear_after edges_after
   call_fair (Ok r) g =
       let z : reduce_refusal o 64 4096 ≡ 0 = rw (weights, cells) at (sym g.number_is) in
-      rw (weights, cells, z, g.value_is) (reported_fair o.n (outcome o) (shape z))
-  call_fair (Err k) g = tt
+      let s : Reported o.n (outcome o) = shape z in
+      rw (weights, cells, z, g.value_is) (reported_fair o.n (outcome o) s, s.weights, s.cells)
+  call_fair (Err k) g =
+      let z : number_of k ≡ reduce_refusal o 64 4096 = rw (weights, cells) at g.number_is in
+      let kept : (x y : List ℤ) → y ≡ unless (reduce_refusal o 64 4096) x y = λ x y. unless_kept (reduce_refusal o 64 4096) k x y z in
+      rw (weights, cells, ← kept (outcome o).linear l, ← kept (outcome o).edges e) (tt, weights, cells)
