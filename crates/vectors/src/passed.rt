@@ -26,8 +26,8 @@ fn bytes_of<const N: usize>(field: &[u8]) -> Option<[u8; N]> {
     list(field, &mut room)?.try_into().ok()
 }
 
-// Into a lent block, where there is one that long.
-fn write_front(record: Record, block: Option<&mut [u8]>) -> Option<Result<(), Refusal>> {
+// None where there is no memory so long as is asked.
+fn answered(record: Record, block: Option<&mut [u8]>) -> Option<Result<(), Refusal>> {
     Some(record::write::write_record(record, block?))
 }
 
@@ -44,8 +44,8 @@ pub fn agrees(line: &[u8]) -> Option<bool> {
     };
     let mut block = [170u8; 1024];
     let mut told = [170u8; 1024];
-    let written = write_front(record, block.get_mut(..length));
-    let is_answered = fields.number::<u8>(b';')? == answers::number_if(&written);
+    let answer = answered(record, block.get_mut(..length));
+    let is_answered = fields.number::<u8>(b';')? == answers::number_if(&answer);
     hex(fields.until(b'\n')?, &mut told)?;
     Some(is_answered && told == block && fields.rest.is_empty())
 }

@@ -11,10 +11,10 @@ enum Kind {
     Project,
 }
 
-impl TryFrom<usize> for Kind {
+impl TryFrom<u8> for Kind {
     type Error = ();
 
-    fn try_from(number: usize) -> Result<Kind, ()> {
+    fn try_from(number: u8) -> Result<Kind, ()> {
         match number {
             0 => Ok(Kind::GrowBackBlock),
             1 => Ok(Kind::ProjectBlock),
@@ -40,22 +40,25 @@ fn record_of(block: &[u8]) -> Record {
     }
 }
 
-// None where there is no such kind, or no memory so long as is asked.
 // Kept: a match, since the kind is read from each line.
-fn called(
-    kind: usize,
-    block: Option<&[u8]>,
-    lent: &[u8],
-    out: Option<&mut [u8]>,
-) -> Option<Result<(), Refusal>> {
-    let block = block?;
-    let out = out?;
-    Some(match Kind::try_from(kind).ok()? {
+fn called(kind: Kind, block: &[u8], lent: &[u8], out: &mut [u8]) -> Result<(), Refusal> {
+    match kind {
         Kind::GrowBackBlock => back::grow::grow_back_block(block, lent, out),
         Kind::ProjectBlock => back::project::project_block(block, lent, out),
         Kind::GrowBack => back::grow::grow_back(record_of(block), lent, out),
         Kind::Project => back::project::project(record_of(block), lent, out),
-    })
+    }
+}
+
+// None where there is no such kind, or no memory so long as is asked.
+fn answered(
+    number: usize,
+    block: Option<&[u8]>,
+    lent: &[u8],
+    out: Option<&mut [u8]>,
+) -> Option<Result<(), Refusal>> {
+    let kind = Kind::try_from(u8::try_from(number).ok()?).ok()?;
+    Some(called(kind, block?, lent, out?))
 }
 
 // What is not told to be written stays as it was.
@@ -69,7 +72,7 @@ pub fn agrees(line: &[u8], bases: &[u8]) -> Option<bool> {
     let length = damage::damage(&mut fields, bases, &mut block)?;
     let lent = list(fields.until(b';')?, &mut lent)?;
     let asked = damage::word(&mut fields, b';')?;
-    let answer = called(kind, block.get(..length), lent, out.get_mut(..asked));
+    let answer = answered(kind, block.get(..length), lent, out.get_mut(..asked));
     let is_answered = fields.number::<u8>(b';')? == answers::number_if(&answer);
     list(fields.until(b'\n')?, &mut told)?;
     Some(is_answered && told == out && fields.rest.is_empty())
