@@ -1,11 +1,12 @@
-use Rattle.std.proofs.Common.{◌≡◌, ◌++◌, List, ℤ, pos, get_or, map, sym, ap, ◌∙◌, subst}
+use Rattle.std.proofs.Common.{◌≡◌, ◌++◌, List, ℤ, pos, get_or, map, sym, ap, ◌∙◌, subst, arith}
+use Rattle.whole.specs.Members.{apart_wider}
 use Rattle.rules.specs.Eliminate as rule
 use Rattle.rules.specs.Record.{hold}
 use Rattle.rules.specs.SmallBlock.{boundary}
 use Rattle.rules.specs.Size.{Within}
 use Rattle.rules.specs.Graph.{Graph}
 use Rattle.accepted_laws.specs.Small.{Small}
-use Rattle.block_elimination.specs.BlockLaws.{members_listed, near_narrow, near_listed, near_apart, within_drop_all, weights_within, lowest_of_weights, table_small, steps_are, block_left}
+use Rattle.block_elimination.specs.BlockLaws.{members_listed, near_narrow, near_listed, near_apart, within_drop_all, drop_all_n, weights_within, lowest_of_weights, table_small, steps_are, block_left}
 use Rattle.block_elimination.proofs.eliminate_block.Goals as goal
 
 pub boundary_of-around-requires : goal.boundary_of-around-requires
