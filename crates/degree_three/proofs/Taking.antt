@@ -30,6 +30,9 @@ pair_few (suc zero) h = (omega arith, omega arith)
 pair_few (suc (suc zero)) h = (omega arith, omega arith)
 pair_few (suc (suc (suc p))) h = absurd (omega arith)
 
+pub pair_at_few : (q : Pair) (p : ℕ) → p < 3 → q ≡ pair_at p → (q.low < 3) × (q.high < 3)
+pair_at_few q p h is = (omega (arith, ap (λ (x : Pair). x.low) is, (pair_few p h).0), omega (arith, ap (λ (x : Pair). x.high) is, (pair_few p h).1))
+
 module _ (e : ℕ → ℤ) (near : List ℕ) where
   pub pairs_turn : (p : ℕ) (g : Graph) → p < 3
       → add_pairs e near (drop p pairs) g ≡ add_pairs e near (drop (p + 1) pairs) (add_edge (get_or near (rule_pair p).low 0) (get_or near (rule_pair p).high 0) (e (rule_pair p).mask) g)
@@ -81,9 +84,8 @@ module _ (near : List ℕ) (e : List ℤ) where
 
     pub taken_asks : ((k : ℕ) → k < 3 → get_or near k 0 < g₀.n) → (j < g.n) × (k < g.n) × SFits w64 (edge g j k +ℤ entry q.mask)
     taken_asks below =
-        let low : q.low < 3 = omega (arith, ap (λ (x : Pair). x.low) is, (pair_few p h).0) in
-        let high : q.high < 3 = omega (arith, ap (λ (x : Pair). x.high) is, (pair_few p h).1) in
-        (omega (arith, below q.low low, t.decisions), omega (arith, below q.high high, t.decisions), edge_fits (entry q.mask) (s.each q.mask) g j k t.small (omega arith))
+        let few = pair_at_few q p h is in
+        (omega (arith, below q.low few.0, t.decisions), omega (arith, below q.high few.1, t.decisions), edge_fits (entry q.mask) (s.each q.mask) g j k t.small (omega arith))
 
     pub taken_more : (g' : Graph) → g' ≡ add_edge j k (entry q.mask) g → Taken g₀ g' (p + 1)
     taken_more g' made = rw made (record {

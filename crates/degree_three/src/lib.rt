@@ -10,6 +10,9 @@ ghost use Rattle.rules.specs.Size.{Within};
 ghost use Rattle.graph.specs.Near.{near_at};
 ghost use Rattle.accepted_laws.specs.Small.{Small};
 
+mod apart;
+
+pub use apart::{absorb_three, add_pairs};
 use graph::{Graph, Near};
 use low_degree::Table;
 use rules::Step;
@@ -62,7 +65,7 @@ pub fn moebius(t: [i64; 8]) -> [i64; 8]
 }
 
 // Each pair's edge gains its entry.
-pub fn add_pairs(g: &mut Graph, near: Near, entries: [i64; 8])
+pub fn add_pairs_to(g: &mut Graph, near: Near, entries: [i64; 8])
     requires { ((k : ℕ) → k < 3 → get_or near.list k 0 < g.old.n) × Small 2199023255552 g.old.edges × Small (2 ^ 54) entries }
     ensures { g.new ≡ add_pairs (λ m. get_or entries m (pos 0)) near.list pairs g.old }
 {
@@ -74,7 +77,7 @@ pub fn add_pairs(g: &mut Graph, near: Near, entries: [i64; 8])
 }
 
 // The constant, the three neighbours and their pairs gain the entries.
-pub fn absorb_three(g: &mut Graph, near: Near, entries: [i64; 8])
+pub fn absorb_three_into(g: &mut Graph, near: Near, entries: [i64; 8])
     requires { ((k : ℕ) → k < 3 → get_or near.list k 0 < g.old.n) × Within g.old × Small (2 ^ 54) entries }
     ensures { g.new ≡ absorb3 (λ m. get_or entries m (pos 0)) near.list g.old }
 {
@@ -83,7 +86,7 @@ pub fn absorb_three(g: &mut Graph, near: Near, entries: [i64; 8])
     g.add_linear(usize::from(near.list[0]), entries[1]);
     g.add_linear(usize::from(near.list[1]), entries[2]);
     g.add_linear(usize::from(near.list[2]), entries[4]);
-    add_pairs(g, near, entries);
+    add_pairs_to(g, near, entries);
 }
 
 // i leaves unless that takes a cubic term; then nothing is changed.
@@ -98,6 +101,6 @@ pub fn eliminate_three(g: &mut Graph, near: Near, i: usize) -> Option<Step>
         return None;
     }
     g.drop_to(3, i);
-    absorb_three(g, near, entries);
+    absorb_three_into(g, near, entries);
     Some(low_degree::step_of(i, near, deltas))
 }

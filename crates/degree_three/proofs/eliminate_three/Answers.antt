@@ -69,8 +69,8 @@ returns-then-entries-ne0 c =
     let q = is_cubic g a.i a.near s.2 s.3 s.1 c.table_of.result.tees c.moebius-entries.result table.1 c.moebius-entries.ensures c.if-entries-ne0.true in
     rw q (refl, refl)
 
-pub absorb_three-requires : goal.absorb_three-requires
-absorb_three-requires c =
+pub absorb_three_into-requires : goal.absorb_three_into-requires
+absorb_three_into-requires c =
     let a = c.args in
     let s = c.requires in
     let g = a.g.now in
@@ -92,5 +92,5 @@ returns c =
     let q = none_cubic g a.i a.near s.2 s.3 s.1 t e table.1 c.moebius-entries.ensures c.if-entries-ne0.false in
     rw q (
       ap Some (c.step_of.ensures ∙ ap (step_from a.i a.near) table.0 ∙ step_table g a.i a.near s.2 (omega (arith, s.3))),
-      eliminated g a.i a.near s.2 c.drop_to.new.self c.absorb_three.new.g e (entries g a.i a.near s.2 s.3 s.1 t e table.1 c.moebius-entries.ensures) c.drop_to.ensures c.absorb_three.ensures,
+      eliminated g a.i a.near s.2 c.drop_to.new.self c.absorb_three_into.new.g e (entries g a.i a.near s.2 s.3 s.1 t e table.1 c.moebius-entries.ensures) c.drop_to.ensures c.absorb_three_into.ensures,
     )

@@ -1,7 +1,7 @@
 use Rattle.rules.specs.DegreeThree.{absorb3}
 use Rattle.degree_three.proofs.Entries.{entry_back}
 use Rattle.degree_three.proofs.Absorbing.{asks0, asks1, asks2, pairs_ask}
-use Rattle.degree_three.proofs.absorb_three.Goals as goal
+use Rattle.degree_three.proofs.absorb_three_into.Goals as goal
 
 pub add_linear-requires : goal.add_linear-requires
 add_linear-requires c =
@@ -25,8 +25,8 @@ add_linear-requires-3 c =
     rw (c.from-3.ensures, c.add_linear-2.ensures, c.from-2.ensures, c.add_linear.ensures, c.from.ensures, c.add_constant.ensures, back 0, back 1, back 2, back 4)
     (asks2 a.near.list a.entries a.g.now c.known.ensures.small s.0 s.1 s.2)
 
-pub add_pairs-requires : goal.add_pairs-requires
-add_pairs-requires c =
+pub add_pairs_to-requires : goal.add_pairs_to-requires
+add_pairs_to-requires c =
     let a = c.args in
     let s = c.requires in
     let back = entry_back a.entries s.2 in
@@ -39,4 +39,4 @@ returns c =
     let a = c.args in
     let s = c.requires in
     let back = entry_back a.entries s.2 in
-    rw (c.add_pairs.ensures, c.add_linear-3.ensures, c.from-3.ensures, c.add_linear-2.ensures, c.from-2.ensures, c.add_linear.ensures, c.from.ensures, c.add_constant.ensures, back 0, back 1, back 2, back 4)
+    rw (c.add_pairs_to.ensures, c.add_linear-3.ensures, c.from-3.ensures, c.add_linear-2.ensures, c.from-2.ensures, c.add_linear.ensures, c.from.ensures, c.add_constant.ensures, back 0, back 1, back 2, back 4)

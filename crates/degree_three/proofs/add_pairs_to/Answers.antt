@@ -2,7 +2,7 @@ use Rattle.std.proofs.Common.{refl, arith}
 use Rattle.accepted_laws.specs.Small.{small_more}
 use Rattle.degree_three.proofs.Entries.{entry_back}
 use Rattle.degree_three.proofs.Taking.{table_is, taken_asks, taken_more, taken_all}
-use Rattle.degree_three.proofs.add_pairs.Goals as goal
+use Rattle.degree_three.proofs.add_pairs_to.Goals as goal
 
 pub loop-pair-init : goal.loop-pair-init
 loop-pair-init c = record { same = refl; small = small_more 2199023255552 c.requires.1 (omega arith); decisions = refl }
