@@ -1,8 +1,6 @@
 // Absorbing three neighbours into a constant, weights and edges that need not be a graph's.
 // Kept: they stand apart, since nothing is asked of what lies past the decisions, where a graph has no edge.
-ghost use Rattle.std.specs.Prelude.{◌≡◌, List, [], ℕ, ◌<◌, ◌^◌, get_or, set, ℤ, pos, ◌+ℤ◌};
-ghost use Rattle.std.specs.Int.{w64};
-ghost use Rattle.std.proofs.Common.{SFits};
+ghost use Rattle.std.specs.Prelude.{◌≡◌, List, [], ℕ, ◌<◌, ◌^◌, get_or, ℤ, pos};
 ghost use Rattle.rules.specs.Graph.{graph};
 ghost use Rattle.rules.specs.DegreeThree.{pairs, add_pairs, absorb3};
 ghost use Rattle.rules.specs.Size.{Within};
@@ -25,14 +23,6 @@ pub fn add_pairs(edges: &mut [i64; 4096], masks: &mut [u64; 64], near: Near, ent
     }
 }
 
-// A weight gains v.
-fn add_linear(lin: &mut [i64; 64], k: usize, v: i64)
-    requires { (k < 64) × SFits w64 (get_or lin.old k (pos 0) +ℤ v) }
-    ensures { lin.new ≡ set lin.old k (get_or lin.old k (pos 0) +ℤ v) }
-{
-    lin[k] += v;
-}
-
 // The three neighbours and their pairs gain the entries, and the constant too, which is given back.
 pub fn absorb_three(
     lin: &mut [i64; 64],
@@ -46,9 +36,9 @@ pub fn absorb_three(
     ensures { ((n : ℕ) (ss : List ℕ) → graph n result lin.new edges.new ss ≡ absorb3 (λ m. get_or entries m (pos 0)) near.list (graph n constant lin.old edges.old ss))
         × ((n : ℕ) → ((k : ℕ) → k < 3 → get_or near.list k 0 < n) → Shows n edges.old masks.old → Shows n edges.new masks.new) }
 {
-    add_linear(lin, usize::from(near.list[0]), entries[1]);
-    add_linear(lin, usize::from(near.list[1]), entries[2]);
-    add_linear(lin, usize::from(near.list[2]), entries[4]);
+    graph::add_linear(lin, usize::from(near.list[0]), entries[1]);
+    graph::add_linear(lin, usize::from(near.list[1]), entries[2]);
+    graph::add_linear(lin, usize::from(near.list[2]), entries[4]);
     add_pairs(edges, masks, near, entries);
     constant + entries[0]
 }

@@ -19,7 +19,7 @@ ghost use Rattle.graph.specs.Whole.{Whole};
 mod shown;
 
 use rules::Objective;
-pub use shown::{add_edge, marked, wipe};
+pub use shown::{add_edge, add_linear, add_term, add_terms, marked, wipe};
 use std::marker::Model;
 use whole::Members;
 
@@ -188,7 +188,7 @@ impl Graph {
         requires { (k < 64) × SFits w64 (lin self.old k +ℤ v) }
         ensures { self.new ≡ add_linear k v self.old }
     {
-        self.linear[k] += v;
+        shown::add_linear(&mut self.linear, k, v);
     }
 
     pub fn add_edge(&mut self, k: usize, l: usize, v: i64)
@@ -246,21 +246,14 @@ impl Graph {
 
 // ---- building
 impl Graph {
-    // A term of a decision with itself is linear.
     pub fn add_term(&mut self, i: usize, j: usize, w: i64)
         requires { (i < self.old.n) × (j < self.old.n) × (weight_of self.old.linear + weight_of self.old.edges + 2 * nat_abs w ≤ 2199023255552) }
         ensures { (self.new ≡ add_term i j w self.old)
             × (weight_of self.new.linear + weight_of self.new.edges ≤ weight_of self.old.linear + weight_of self.old.edges + 2 * nat_abs w) }
     {
-        self.known();
-        if i == j {
-            self.add_linear(i, w);
-        } else {
-            self.add_edge(i, j, w);
-        }
+        shown::add_term(&mut self.linear, &mut self.edges, &mut self.masks, i, j, w);
     }
 
-    // As far as the three lists go.
     pub fn add_terms(&mut self, o: Objective)
         requires { ((k : ℕ) → k < length o.firsts.now → get_or o.firsts.now k 0 < self.old.n)
             × ((k : ℕ) → k < length o.seconds.now → get_or o.seconds.now k 0 < self.old.n)
@@ -268,9 +261,14 @@ impl Graph {
         ensures { (self.new ≡ add_terms o.entry.firsts.now o.entry.seconds.now o.entry.term_weights.now self.old)
             × (weight_of self.new.linear + weight_of self.new.edges ≤ 2199023255552) }
     {
-        for ((i, j), w) in o.firsts.iter().zip(o.seconds).zip(o.term_weights) {
-            self.add_term(*i as usize, *j as usize, *w);
-        }
+        shown::add_terms(
+            &mut self.linear,
+            &mut self.edges,
+            &mut self.masks,
+            o.firsts,
+            o.seconds,
+            o.term_weights,
+        );
     }
 
     // The decisions of an objective, with no term yet.

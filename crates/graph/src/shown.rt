@@ -1,9 +1,10 @@
-// Edges and the masks that show them, while the rest of a graph stands still.
-ghost use Rattle.std.specs.Prelude.{◌≡◌, ℕ, ◌+◌, ◌*◌, ◌<◌, ◌≤◌, cond, not, get_or, set, eqb, pos, ◌+ℤ◌};
+// Weights, edges and the masks that show them, while the rest of a graph stands still.
+ghost use Rattle.std.specs.Prelude.{◌≡◌, List, ℕ, ◌+◌, ◌*◌, ◌<◌, ◌≤◌, cond, not, length, get_or, set, eqb, ℤ, pos, nat_abs, ◌+ℤ◌};
 ghost use Rattle.std.specs.Int.{w64};
 ghost use Rattle.std.proofs.Common.{SFits};
 ghost use Rattle.whole.specs.Words.{bit, is_zero_z};
-ghost use Rattle.rules.specs.Graph.{clear as cleared};
+ghost use Rattle.rules.specs.Graph.{graph, clear as cleared, add_term, add_terms};
+ghost use Rattle.rules.specs.Objective.{weight_of};
 ghost use Rattle.graph.specs.Shows.{Shows};
 
 use whole::Members;
@@ -20,7 +21,15 @@ pub fn marked(m: u64, j: usize, w: i64) -> u64
     whole::without(m, one)
 }
 
-// Kept: edges and masks apart here and in `wipe`, since between the two writes the graph's invariant does not hold.
+// Kept: weights, edges and masks apart from here on, since between an edge's two writes a graph's invariant does not hold, and nothing is asked of what lies past the decisions, where a graph has no edge.
+// A weight gains v.
+pub fn add_linear(lin: &mut [i64; 64], k: usize, v: i64)
+    requires { (k < 64) × SFits w64 (get_or lin.old k (pos 0) +ℤ v) }
+    ensures { lin.new ≡ set lin.old k (get_or lin.old k (pos 0) +ℤ v) }
+{
+    lin[k] += v;
+}
+
 // An edge gains v, and the masks of the two show whether it is one.
 pub fn add_edge(edges: &mut [i64; 4096], masks: &mut [u64; 64], k: usize, l: usize, v: i64)
     requires { (k < 64) × (l < 64) × SFits w64 (get_or edges.old (64 * k + l) (pos 0) +ℤ v) × SFits w64 (get_or edges.old (64 * l + k) (pos 0) +ℤ v) }
@@ -50,4 +59,47 @@ pub fn wipe(edges: &mut [i64; 4096], masks: &mut [u64; 64], i: usize)
         masks[j] = marked(masks[j], i, 0);
     }
     masks[i] = 0;
+}
+
+// A term of a decision with itself is linear.
+pub fn add_term(
+    lin: &mut [i64; 64],
+    edges: &mut [i64; 4096],
+    masks: &mut [u64; 64],
+    i: usize,
+    j: usize,
+    w: i64,
+)
+    requires { (i < 64) × (j < 64) × (weight_of lin.old + weight_of edges.old + 2 * nat_abs w ≤ 2199023255552) }
+    ensures { ((n : ℕ) (c : ℤ) (ss : List ℕ) → graph n c lin.new edges.new ss ≡ add_term i j w (graph n c lin.old edges.old ss))
+        × (weight_of lin.new + weight_of edges.new ≤ weight_of lin.old + weight_of edges.old + 2 * nat_abs w)
+        × ((n : ℕ) → i < n → j < n → Shows n edges.old masks.old → Shows n edges.new masks.new) }
+{
+    if i == j {
+        add_linear(lin, i, w);
+    } else {
+        add_edge(edges, masks, i, j, w);
+    }
+}
+
+// As far as the three lists go.
+pub fn add_terms(
+    lin: &mut [i64; 64],
+    edges: &mut [i64; 4096],
+    masks: &mut [u64; 64],
+    firsts: &[u32],
+    seconds: &[u32],
+    term_weights: &[i64],
+)
+    requires { ((k : ℕ) → k < length firsts.now → get_or firsts.now k 0 < 64)
+        × ((k : ℕ) → k < length seconds.now → get_or seconds.now k 0 < 64)
+        × (weight_of lin.old + weight_of edges.old + 2 * weight_of term_weights.now ≤ 2199023255552) }
+    ensures { ((n : ℕ) (c : ℤ) (ss : List ℕ) → graph n c lin.new edges.new ss ≡ add_terms firsts.now seconds.now term_weights.now (graph n c lin.old edges.old ss))
+        × (weight_of lin.new + weight_of edges.new ≤ 2199023255552)
+        × ((n : ℕ) → ((k : ℕ) → k < length firsts.now → get_or firsts.now k 0 < n) → ((k : ℕ) → k < length seconds.now → get_or seconds.now k 0 < n)
+        → Shows n edges.old masks.old → Shows n edges.new masks.new) }
+{
+    for ((i, j), w) in firsts.iter().zip(seconds).zip(term_weights) {
+        add_term(lin, edges, masks, *i as usize, *j as usize, *w);
+    }
 }

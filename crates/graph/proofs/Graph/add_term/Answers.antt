@@ -1,24 +1,31 @@
-use Rattle.std.proofs.Common.{arith, ◌∙◌}
+use Rattle.std.proofs.Common.{arith, ◌+◌, ◌*◌, ◌<◌, ◌≤◌, nat_abs, sym, ap, ◌∙◌, subst}
 use Rattle.whole.specs.Ints.{rd}
-use Rattle.graph.proofs.Adding.{term_fits, term_same, term_other}
+use Rattle.rules.specs.Graph as rule
+use Rattle.rules.specs.Objective.{weight_of}
 use Rattle.graph.proofs.Graph.add_term.Goals as goal
+use Rattle.graph.proofs.Graph.add_term.Goals.{After-self}
 
-pub add_linear-requires : goal.add_linear-requires
-add_linear-requires c =
-    let a = c.args in
-    rw (rd c.ranges.w) (omega (arith, c.known.ensures.small), (term_fits a.i a.j a.w a.self.now c.requires.2).0)
+-- what is asked, of the fields
+module _ (c : After-self) where
+  asked : (c.args.i < c.self.inside.n) × (c.args.j < c.self.inside.n) × (weight_of c.self.inside.linear + weight_of c.self.inside.edges + 2 * nat_abs c.args.w ≤ 2199023255552)
+  asked =
+      subst (λ (x : rule.Graph). (c.args.i < x.n) × (c.args.j < x.n) × (weight_of x.linear + weight_of x.edges + 2 * nat_abs c.args.w ≤ 2199023255552)) (sym c.self.view_is) c.requires
 
-pub add_edge-requires : goal.add_edge-requires
-add_edge-requires c =
-    let a = c.args in
-    rw (rd c.ranges.w) (c.requires.0, c.requires.1, (term_fits a.i a.j a.w a.self.now c.requires.2).1)
+pub add_term-requires : goal.add_term-requires
+add_term-requires c =
+    let q = asked (goal.at.add_term-requires c).After-self in
+    rw (rd c.ranges.w) (omega (arith, q.0, c.self.invariant.0), omega (arith, q.1, c.self.invariant.0), q.2)
 
-pub returns-then-i-j : goal.returns-then-i-j
-returns-then-i-j c =
-    let a = c.args in
-    term_same a.i a.j a.w a.self.now c.if-i-j.true c.add_linear.new.self (c.add_linear.ensures ∙ rw (rd c.ranges.w))
+pub invariant_of-self : goal.invariant_of-self
+invariant_of-self c =
+    let q = asked (goal.at.invariant_of-self c).After-self in
+    (c.self.invariant.0, c.add_term.ensures.2 c.self.inside.n q.0 q.1 c.self.invariant.1)
 
-pub returns-else-i-j : goal.returns-else-i-j
-returns-else-i-j c =
+pub returns : goal.returns
+returns c =
     let a = c.args in
-    term_other a.i a.j a.w a.self.now c.if-i-j.false c.add_edge.new.self (c.add_edge.ensures ∙ rw (rd c.ranges.w))
+    let g = c.self.inside in
+    let e = rw (rd c.ranges.w) at c.add_term.ensures in (
+      e.0 g.n g.constant g.states ∙ ap (rule.add_term a.i a.j a.w) c.self.view_is,
+      subst (λ (x : rule.Graph). weight_of c.add_term.new.lin + weight_of c.add_term.new.edges ≤ weight_of x.linear + weight_of x.edges + 2 * nat_abs a.w) c.self.view_is e.1,
+    )

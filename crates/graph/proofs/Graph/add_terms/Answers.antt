@@ -1,46 +1,31 @@
-use Rattle.std.proofs.Common.{to_z, of_z, arith, inl, inr, ◌≡◌, ◌∷◌, nat_abs, refl, sym, ap, ◌∙◌}
-use Rattle.std.specs.Int.{w64}
-use Rattle.rules.specs.Graph.{add_terms}
-use Rattle.graph.proofs.Laws.{mass_read}
-use Rattle.graph.proofs.Adding.{Adding, term_asked, adding_turn, adding_of, no_firsts, no_seconds, no_weights}
+use Rattle.std.proofs.Common.{arith, ◌+◌, ◌*◌, ◌≤◌, sym, ap, ◌∙◌, subst}
+use Rattle.rules.specs.Graph as rule
+use Rattle.rules.specs.Objective.{weight_of}
+use Rattle.graph.proofs.Adding.{AllBelow}
 use Rattle.graph.proofs.Graph.add_terms.Goals as goal
-use Rattle.graph.proofs.Graph.add_terms.Goals.{In-Some}
+use Rattle.graph.proofs.Graph.add_terms.Goals.{After-self}
 
-pub loop-i-init : goal.loop-i-init
-loop-i-init c =
-    let both = c.zip-i-items.ensures in
-    let pair = c.zip.ensures in
-    rw c.into_iter-i-iterator.ensures.into_iter_gives
-    (adding_of _ _ _ (record { goes = refl; many = refl; light = c.requires.2; firsts = c.requires.0; seconds = c.requires.1 })
-    (rw (both.first, pair.first, c.iter.ensures.rest))
-    (rw (both.first, pair.second.0))
-    (sym both.second.0))
+-- what is asked, of the fields
+module _ (c : After-self) where
+  asked : AllBelow c.self.inside.n c.args.o.firsts.now × AllBelow c.self.inside.n c.args.o.seconds.now
+      × (weight_of c.self.inside.linear + weight_of c.self.inside.edges + 2 * weight_of c.args.o.term_weights.now ≤ 2199023255552)
+  asked =
+      subst (λ (x : rule.Graph). AllBelow x.n c.args.o.firsts.now × AllBelow x.n c.args.o.seconds.now × (weight_of x.linear + weight_of x.edges + 2 * weight_of c.args.o.term_weights.now ≤ 2199023255552))
+      (sym c.self.view_is) c.requires
 
--- the turn's term, with those after it
-turn : (c : In-Some) → Adding c.args.self.now.n (add_terms c.args.o.firsts.now c.args.o.seconds.now c.args.o.term_weights.now c.args.self.now) c.loop-i.self
-    (c.in-Some.i.now ∷ c.next.new.self.a.a.rest.now) (c.in-Some.j.now ∷ c.next.new.self.a.b.rest.now) (c.in-Some.w.now ∷ c.next.new.self.b.rest.now)
-turn c = let s = c.in-Some.ensures.steps in adding_of _ _ _ c.loop-i.invariant s.0.0 s.0.1 s.1
+pub add_terms-requires : goal.add_terms-requires
+add_terms-requires c =
+    let q = asked (goal.at.add_terms-requires c).After-self in
+    (λ k h. omega (arith, q.0 k h, c.self.invariant.0), λ k h. omega (arith, q.1 k h, c.self.invariant.0), q.2)
 
-weight : (c : In-Some) → to_z w64 (of_z w64 c.in-Some.w.now) ≡ c.in-Some.w.now
-weight c = mass_read c.in-Some.w.now (omega (arith, (term_asked _ _ _ _ _ _ _ _ _ (turn c)).2))
-
-pub add_term-requires : goal.add_term-requires
-add_term-requires c =
-    let s = (goal.at.add_term-requires c).In-Some in
-    let t = term_asked _ _ _ _ _ _ _ _ _ (turn s) in
-    rw (weight s) t
-
-pub loop-i-preserved : goal.loop-i-preserved
-loop-i-preserved c =
-    let s = (goal.at.loop-i-preserved c).In-Some in
-    let e = c.add_term.ensures in
-    adding_turn _ _ _ _ _ _ _ _ _ (turn s) c.add_term.new.self (e.0 ∙ rw (weight s)) (omega (arith, e.1, ap nat_abs (weight s)))
+pub invariant_of-self : goal.invariant_of-self
+invariant_of-self c =
+    let q = asked (goal.at.invariant_of-self c).After-self in
+    (c.self.invariant.0, c.add_terms.ensures.2 c.self.inside.n q.0 q.1 c.self.invariant.1)
 
 pub returns : goal.returns
 returns c =
-    let l = c.loop-i in
-    let it = l.i-iterator in
-    elim c.in-None.ensures.steps [
-      | inl z ↦ elim z.1 [ inl n ↦ no_firsts _ _ _ _ _ _ l.invariant n.1.0 | inr n ↦ no_seconds _ _ _ _ _ _ l.invariant n.1.0 ]
-      | inr n ↦ no_weights _ _ _ _ _ _ l.invariant n.1.0
-    ]
+    let o = c.args.o in
+    let g = c.self.inside in
+    let e = c.add_terms.ensures in
+    (e.0 g.n g.constant g.states ∙ ap (rule.add_terms o.firsts.now o.seconds.now o.term_weights.now) c.self.view_is, e.1)
