@@ -1,5 +1,5 @@
 // Absorbing three neighbours into a constant, weights and edges that need not be a graph's.
-// Kept: they stand apart, since nothing is asked of what lies past the decisions, where a graph has no edge.
+// Kept: they stand apart, since nothing is asked that makes a graph: edges the same both ways round, none past n, masks that show them.
 ghost use Rattle.std.specs.Prelude.{◌≡◌, List, [], ℕ, ◌<◌, ◌^◌, get_or, ℤ, pos};
 ghost use Rattle.rules.specs.Graph.{graph};
 ghost use Rattle.rules.specs.DegreeThree.{pairs, add_pairs, absorb3};

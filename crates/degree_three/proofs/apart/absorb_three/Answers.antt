@@ -24,7 +24,7 @@ add_linear-requires-3 c =
     weight_asks a.entries s.2 _ c.from-3.result _ c.from-3.ensures (s.0 2 (omega arith)) two (omega arith)
 
 pub add_pairs-requires : goal.add_pairs-requires
-add_pairs-requires c = (c.requires.0, record { each = c.requires.1.edges }, c.requires.2)
+add_pairs-requires c = (λ k h. omega (arith, c.requires.0 k h), record { each = c.requires.1.edges }, c.requires.2)
 
 pub overflow_add-result : goal.overflow_add-result
 overflow_add-result c = constant_asks c.args.entries c.requires.2 _ c.args.constant c.requires.1.constant
