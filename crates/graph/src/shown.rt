@@ -21,7 +21,7 @@ pub fn marked(m: u64, j: usize, w: i64) -> u64
     whole::without(m, one)
 }
 
-// Kept: weights, edges and masks apart from here on, since between an edge's two writes a graph's invariant does not hold, and nothing is asked of what lies past the decisions, where a graph has no edge.
+// Kept: weights, edges and masks apart from here on, since between an edge's two writes a graph's invariant does not hold, and nothing is asked that makes a graph: edges the same both ways round, none past n, masks that show them.
 // A weight gains v.
 pub fn add_linear(lin: &mut [i64; 64], k: usize, v: i64)
     requires { (k < 64) × SFits w64 (get_or lin.old k (pos 0) +ℤ v) }
@@ -82,7 +82,7 @@ pub fn add_term(
     }
 }
 
-// As far as the three lists go.
+// Until one of the three lists ends.
 pub fn add_terms(
     lin: &mut [i64; 64],
     edges: &mut [i64; 4096],
