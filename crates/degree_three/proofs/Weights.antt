@@ -1,6 +1,6 @@
 -- Weights and a constant that need not be a graph's, where they gain an entry as it is read.
-use mathlib.Core.Path.{◌≡◌, refl, ap, ◌∙◌}
-use mathlib.Core.List.{List}
+use mathlib.Core.Path.{◌≡◌, ap, ◌∙◌}
+use mathlib.Core.List.{List, []}
 use Prim.Native.Nat.{ℕ, ◌+◌, ◌^◌, ◌<◌, ◌≤◌}
 use native.Mathlib.Omega.{arith}
 use lib.ListN.{get_or, set}
@@ -10,11 +10,15 @@ use mir.Val.{SFits, to_z, of_z}
 use Rattle.whole.specs.Parts.{∣◌∣}
 use Rattle.whole.specs.Fits.{read, sum_fits}
 use Rattle.whole.specs.Ints.{rd}
-use Rattle.rules.specs.Graph.{graph, add_constant, add_linear}
+use Rattle.rules.specs.Graph.{Graph, graph, add_constant, add_linear}
 use Rattle.rules.specs.DegreeThree.{pairs, add_pairs, absorb3}
-use Rattle.accepted_laws.specs.Small.{Small, small_more, small_set}
-use Rattle.size_laws.specs.Sizes.{add_size, gain_fits}
+use Rattle.accepted_laws.specs.Small.{Small}
 use Rattle.degree_three.proofs.Entries.{entry_back}
+use Rattle.degree_three.proofs.Taking.{linear_fits, linear_gains}
+
+-- a graph of weights alone: what Taking says of a gain holds of these
+abbrev alone : List ℤ → Graph
+alone l = graph 0 (pos 0) l [] []
 
 module _ (e : List ℤ) (s : Small (2 ^ 54) e) where
   abbrev entry : ℕ → ℤ
@@ -27,10 +31,11 @@ module _ (e : List ℤ) (s : Small (2 ^ 54) e) where
   as_read_few m = omega (arith, ap ∣◌∣ (entry_back e s m), s.each m)
 
   pub weight_asks : {b : ℕ} {l : List ℤ} (m i k : ℕ) → i ≡ k → k < 64 → Small b l → b ≤ 2 ^ 59 → (i < 64) × SFits w64 (get_or l i (pos 0) +ℤ as_read m)
-  weight_asks {l = l} m i k is h few low = (omega arith, gain_fits l l i (as_read m) (few.each i) refl (as_read_few m) (omega arith))
+  weight_asks {l = l} m i k is h few low = (omega arith, linear_fits (as_read m) (as_read_few m) (alone l) i few low)
 
   pub weight_few : {b : ℕ} {l l' : List ℤ} (m i : ℕ) → Small b l → l' ≡ set l i (get_or l i (pos 0) +ℤ as_read m) → Small (b + 2 ^ 54) l'
-  weight_few {b} {l} m i few made = rw made (small_set i (get_or l i (pos 0) +ℤ as_read m) (small_more (b + 2 ^ 54) few (omega arith)) (add_size (get_or l i (pos 0)) (as_read m) (few.each i) (as_read_few m)))
+  unfolding add_linear
+  weight_few {b} {l} m i few made = rw made (linear_gains (as_read m) (as_read_few m) (alone l) i few)
 
   pub weight_gains : (m : ℕ) (l : List ℤ) {l' : List ℤ} {i k : ℕ} → i ≡ k → l' ≡ set l i (get_or l i (pos 0) +ℤ as_read m) → l' ≡ set l k (get_or l k (pos 0) +ℤ entry m)
   weight_gains m l is made = rw (is, entry_back e s m) at made

@@ -23,7 +23,7 @@ pub fn add_pairs(edges: &mut [i64; 4096], masks: &mut [u64; 64], near: Near, ent
     }
 }
 
-// The three neighbours and their pairs gain the entries, and the constant too, which is given back.
+// The constant, the three neighbours and their pairs gain the entries; the result is the constant that comes of it.
 pub fn absorb_three(
     lin: &mut [i64; 64],
     edges: &mut [i64; 4096],
